@@ -1,0 +1,197 @@
+-- Codes of snapshots, sketches and of all that a machine keeps, by which proofs tell them apart: a struct may have them as its value.
+use Rattle.std.specs.Prelude.{◌≡◌, ℕ, Bool, true, false, List, Option, Some, None}
+use Rattle.std.proofs.Common.{refl, sym, ap}
+use Rattle.std.specs.Coded.{Coded, code_by, coded×, coded_ℕ, coded_list, coded_option, coded_bool}
+use base.Stored.{Gv, gnil, gnum, gcons}
+use Rattle.vfs_model.specs.Paths.{Path, Case, Sensitive, Insensitive}
+use Rattle.vfs_model.specs.World.{World, Entry, Node, Directory, Regular}
+use Rattle.vfs_model.specs.Pending.{Pending}
+use Rattle.vfs_model.specs.Retained.{Pair, Retained}
+use Rattle.vfs_model.specs.Scanning.{PartialSnapshot, Unread, NotThere, FileRead, DirRead, PartialChildren, NoChildren, PartialChild}
+use Rattle.vfs_model.specs.Fingerprint.{Sensitivity, Absolute, Relative, NameOnly, Ignored, Input, Seen}
+use Rattle.vfs_model.specs.State.{KeptPrint}
+use Rattle.vfs_model.specs.Stands.{RunningScan, Parts}
+use Rattle.vfs_model.specs.Snapshot.{Snapshot, Missing, File, Dir, Children, Nothing, Child}
+
+abbrev pub bytes_code : Coded (List ℕ)
+bytes_code = coded_list coded_ℕ
+
+abbrev mutual
+  pub snapshot_gv : Snapshot → Gv
+  snapshot_gv Missing = gnil
+  snapshot_gv (File digest) = gcons (gnum 0) (bytes_code.code digest)
+  snapshot_gv (Dir children) = gcons (gnum 1) (children_gv children)
+
+  pub children_gv : Children → Gv
+  children_gv Nothing = gnil
+  children_gv (Child name s more) = gcons (bytes_code.code name) (gcons (snapshot_gv s) (children_gv more))
+
+heads : {a b c d : Gv} → gcons a b ≡ gcons c d → a ≡ c
+heads e = cc
+
+tails : {a b c d : Gv} → gcons a b ≡ gcons c d → b ≡ d
+tails e = cc
+
+zero≢one : gnum 0 ≡ gnum 1 → ⊥
+zero≢one e = cc
+
+mutual
+  pub snapshot_inj : (s t : Snapshot) → snapshot_gv s ≡ snapshot_gv t → s ≡ t
+  snapshot_inj Missing Missing e = refl
+  snapshot_inj Missing (File digest) e = cc
+  snapshot_inj Missing (Dir cs) e = cc
+  snapshot_inj (File digest) Missing e = cc
+  snapshot_inj (File a) (File b) e = ap File (bytes_code.inj a b (tails e))
+  snapshot_inj (File a) (Dir cs) e = absurd (zero≢one (heads e))
+  snapshot_inj (Dir cs) Missing e = cc
+  snapshot_inj (Dir cs) (File b) e = absurd (zero≢one (sym (heads e)))
+  snapshot_inj (Dir cs) (Dir ds) e = ap Dir (children_inj cs ds (tails e))
+
+  pub children_inj : (cs ds : Children) → children_gv cs ≡ children_gv ds → cs ≡ ds
+  children_inj Nothing Nothing e = refl
+  children_inj Nothing (Child n s ds) e = cc
+  children_inj (Child n s cs) Nothing e = cc
+  children_inj (Child n s cs) (Child m t ds) e = λ i. Child (bytes_code.inj n m (heads e) i) (snapshot_inj s t (heads (tails e)) i) (children_inj cs ds (tails (tails e)) i)
+
+abbrev pub snapshot_code : Coded Snapshot
+snapshot_code = record { code = snapshot_gv; inj = snapshot_inj }
+
+abbrev pub children_code : Coded Children
+children_code = record { code = children_gv; inj = children_inj }
+
+-- ---- sketches
+
+abbrev mutual
+  pub partial_gv : PartialSnapshot → Gv
+  partial_gv Unread = gnil
+  partial_gv NotThere = gnum 0
+  partial_gv (FileRead bytes) = gcons (gnum 0) (bytes_code.code bytes)
+  partial_gv (DirRead partials) = gcons (gnum 1) (partials_gv partials)
+
+  pub partials_gv : PartialChildren → Gv
+  partials_gv NoChildren = gnil
+  partials_gv (PartialChild name s more) = gcons (bytes_code.code name) (gcons (partial_gv s) (partials_gv more))
+
+mutual
+  pub partial_inj : (s t : PartialSnapshot) → partial_gv s ≡ partial_gv t → s ≡ t
+  partial_inj Unread Unread e = refl
+  partial_inj Unread NotThere e = cc
+  partial_inj Unread (FileRead b) e = cc
+  partial_inj Unread (DirRead b) e = cc
+  partial_inj NotThere Unread e = cc
+  partial_inj NotThere NotThere e = refl
+  partial_inj NotThere (FileRead b) e = cc
+  partial_inj NotThere (DirRead b) e = cc
+  partial_inj (FileRead a) Unread e = cc
+  partial_inj (FileRead a) NotThere e = cc
+  partial_inj (FileRead a) (FileRead b) e = ap FileRead (bytes_code.inj a b (tails e))
+  partial_inj (FileRead a) (DirRead cs) e = absurd (zero≢one (heads e))
+  partial_inj (DirRead a) Unread e = cc
+  partial_inj (DirRead a) NotThere e = cc
+  partial_inj (DirRead cs) (FileRead b) e = absurd (zero≢one (sym (heads e)))
+  partial_inj (DirRead cs) (DirRead ds) e = ap DirRead (partials_inj cs ds (tails e))
+
+  pub partials_inj : (cs ds : PartialChildren) → partials_gv cs ≡ partials_gv ds → cs ≡ ds
+  partials_inj NoChildren NoChildren e = refl
+  partials_inj NoChildren (PartialChild n s ds) e = cc
+  partials_inj (PartialChild n s cs) NoChildren e = cc
+  partials_inj (PartialChild n s cs) (PartialChild m t ds) e = λ i. PartialChild (bytes_code.inj n m (heads e) i) (partial_inj s t (heads (tails e)) i) (partials_inj cs ds (tails (tails e)) i)
+
+abbrev pub partial_code : Coded PartialSnapshot
+partial_code = record { code = partial_gv; inj = partial_inj }
+
+abbrev pub partials_code : Coded PartialChildren
+partials_code = record { code = partials_gv; inj = partials_inj }
+
+-- ---- plain data
+
+abbrev pub path_code : Coded Path
+path_code = coded_list bytes_code
+
+abbrev pub pair_code : Coded Pair
+pair_code = code_by (Path × Snapshot) (coded× path_code snapshot_code) (λ r. (r.path, r.snapshot)) (λ p. record { path = p.0; snapshot = p.1 }) (λ _. refl)
+
+abbrev pub retained_code : Coded Retained
+retained_code = code_by (List Pair × List Path) (coded× (coded_list pair_code) (coded_list path_code)) (λ r. (r.pairs, r.dirs)) (λ p. record { pairs = p.0; dirs = p.1 }) (λ _. refl)
+
+abbrev pub is_sensitive : Case → Bool
+is_sensitive Sensitive = true
+is_sensitive Insensitive = false
+
+abbrev pub case_if : Bool → Case
+case_if true = Sensitive
+case_if false = Insensitive
+
+pub case_if-is : (c : Case) → case_if (is_sensitive c) ≡ c
+case_if-is Sensitive = refl
+case_if-is Insensitive = refl
+
+abbrev pub case_code : Coded Case
+case_code = code_by Bool coded_bool is_sensitive case_if case_if-is
+
+abbrev pub file_bytes : Node → Option (List ℕ)
+file_bytes Directory = None
+file_bytes (Regular bytes) = Some bytes
+
+abbrev pub node_if : Option (List ℕ) → Node
+node_if None = Directory
+node_if (Some bytes) = Regular bytes
+
+pub node_if-is : (n : Node) → node_if (file_bytes n) ≡ n
+node_if-is Directory = refl
+node_if-is (Regular bytes) = refl
+
+abbrev pub node_code : Coded Node
+node_code = code_by (Option (List ℕ)) (coded_option bytes_code) file_bytes node_if node_if-is
+
+abbrev pub entry_code : Coded Entry
+entry_code = code_by (Path × Node) (coded× path_code node_code) (λ e. (e.path, e.node)) (λ p. record { path = p.0; node = p.1 }) (λ _. refl)
+
+abbrev pub world_code : Coded World
+world_code = coded_list entry_code
+
+abbrev pub pending_code : Coded Pending
+pending_code = code_by (List Path × (ℕ × Bool)) (coded× (coded_list path_code) (coded× coded_ℕ coded_bool)) (λ p. (p.events, (p.capacity, p.mark))) (λ p. record { events = p.0; capacity = p.1.0; mark = p.1.1 }) (λ _. refl)
+
+-- ---- what a machine keeps
+
+abbrev pub sensitivity_bits : Sensitivity → Bool × Bool
+sensitivity_bits Absolute = (true, true)
+sensitivity_bits Relative = (true, false)
+sensitivity_bits NameOnly = (false, true)
+sensitivity_bits Ignored = (false, false)
+
+abbrev pub sensitivity_by : Bool → Bool → Sensitivity
+sensitivity_by true true = Absolute
+sensitivity_by true false = Relative
+sensitivity_by false true = NameOnly
+sensitivity_by false false = Ignored
+
+pub sensitivity_by-is : (m : Sensitivity) → sensitivity_by (sensitivity_bits m).0 (sensitivity_bits m).1 ≡ m
+sensitivity_by-is Absolute = refl
+sensitivity_by-is Relative = refl
+sensitivity_by-is NameOnly = refl
+sensitivity_by-is Ignored = refl
+
+abbrev pub sensitivity_code : Coded Sensitivity
+sensitivity_code = code_by (Bool × Bool) (coded× coded_bool coded_bool) sensitivity_bits (λ p. sensitivity_by p.0 p.1) sensitivity_by-is
+
+abbrev pub input_code : Coded Input
+input_code = code_by (Path × Sensitivity) (coded× path_code sensitivity_code) (λ i. (i.root, i.sensitivity)) (λ p. record { root = p.0; sensitivity = p.1 }) (λ _. refl)
+
+abbrev pub seen_code : Coded Seen
+seen_code = code_by (Input × Snapshot) (coded× input_code snapshot_code) (λ v. (v.input, v.snapshot)) (λ p. record { input = p.0; snapshot = p.1 }) (λ _. refl)
+
+abbrev pub kept_code : Coded KeptPrint
+kept_code = code_by (List Seen × List ℕ) (coded× (coded_list seen_code) bytes_code) (λ k. (k.seen, k.digest)) (λ p. record { seen = p.0; digest = p.1 }) (λ _. refl)
+
+abbrev pub running_code : Coded RunningScan
+running_code = code_by (Path × (ℕ × PartialSnapshot)) (coded× path_code (coded× coded_ℕ partial_code)) (λ r. (r.path, (r.seen, r.partial))) (λ p. record { path = p.0; seen = p.1.0; partial = p.1.1 }) (λ _. refl)
+
+abbrev pub parts_code : {V : Type 0} → Coded V → Coded (Parts V)
+parts_code {V} v =
+    code_by ((Case × (Option World × ℕ)) × ((Pending × Retained) × (V × (List (Option RunningScan) × List KeptPrint))))
+    (coded× (coded× case_code (coded× (coded_option world_code) coded_ℕ)) (coded× (coded× pending_code retained_code) (coded× v (coded× (coded_list (coded_option running_code)) (coded_list kept_code)))))
+    (λ m. ((m.case, (m.content, m.faults)), ((m.pending, m.retained), (m.versions, (m.scans, m.kept)))))
+    (λ p. record { case = p.0.0; content = p.0.1.0; faults = p.0.1.1; pending = p.1.0.0; retained = p.1.0.1; versions = p.1.1.0; scans = p.1.1.1.0; kept = p.1.1.1.1 })
+    (λ _. refl)
