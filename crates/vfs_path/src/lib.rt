@@ -1,0 +1,20 @@
+//! Names and paths, which several owners in any threads can have.
+#![tactic(auto)]
+
+mod error;
+mod name;
+mod path;
+
+pub use error::PathError;
+pub use name::{Name, Names};
+pub use path::{Path, Paths};
+
+/// Names, paths and lists of them may be shared by threads.
+pub fn shares_with_threads(name: &Name, path: &Path, names: &Names, paths: &Paths) {
+    shareable(name);
+    shareable(path);
+    shareable(names);
+    shareable(paths);
+}
+
+fn shareable<T: Send + Sync>(_value: &T) {}

@@ -1,0 +1,171 @@
+//! Names.
+
+ghost use Rattle.std.specs.Prelude.{◌≡◌, ◌↔◌, ◌⊎◌, IfOk, IfErr, Ok, Err, Some, IsTrue, true};
+ghost use Rattle.std.specs.List.{list_all};
+ghost use Rattle.std.specs.Str.{is_utf8};
+ghost use Rattle.vfs_path.specs.declared.error.PathError.TheVariants.{NoMemory as NoMemoryError};
+ghost use Rattle.vfs_path.specs.Texts.{IsName, stands_in_name, is_dots, name_of};
+
+use crate::error::PathError;
+use case_order::{NoMemory, Share, Shared, share_all};
+use std::alloc::Global;
+use std::marker::Model;
+use std::str;
+
+/// A name: 1 to 255 bytes of UTF-8 without byte 0, LF and `/`, other than `.` and `..`.
+///
+/// Contracts see its bytes.
+#[derive(Debug, Drop)]
+pub struct Name {
+    text: Shared<Vec<u8>>,
+}
+
+impl Model for Name {
+    ghost use Rattle.std.specs.Prelude.{List, ℕ};
+    ghost use Rattle.vfs_path.specs.Texts.{IsName};
+
+    ghost Value = { List ℕ };
+
+    ghost view = { λ n. n.text.items };
+
+    ghost invariant = { λ n. IsName n.text.items };
+}
+
+impl Name {
+    /// The name with these bytes.
+    ///
+    /// Refused, by the first that holds: `BadByte` (a `/` included), `EmptyName`, `DotName`,
+    /// `LongName`, `NoMemory`.
+    pub fn from_bytes(alloc: Global, text: &[u8]) -> Result<Name, PathError>
+        ensures name { IfOk result (λ name. (name ≡ text.now) × (name_of text.now ≡ Ok text.now)) }
+        ensures refused { IfErr result (λ e. (e ≡ NoMemoryError) ⊎ (name_of text.now ≡ Err e)) }
+    {
+        if !(stand_in_name(text) && is_utf8(text)) {
+            return Err(PathError::BadByte);
+        }
+        if text.is_empty() {
+            return Err(PathError::EmptyName);
+        }
+        if is_dots(text) {
+            return Err(PathError::DotName);
+        }
+        if text.len() > 255 {
+            return Err(PathError::LongName);
+        }
+        Name::with_text(alloc, text).map_err(|_| PathError::NoMemory)
+    }
+
+    /// The name with these bytes, which are those of a name.
+    pub(crate) fn with_text(alloc: Global, text: &[u8]) -> Result<Name, NoMemory>
+        requires { IsName text.now }
+        ensures { IfOk result (λ name. name ≡ text.now) }
+    {
+        let bytes = Vec::from_slice(alloc, text)?;
+        match Shared::new(alloc, bytes) {
+            Ok(text) => Ok(Name { text }),
+            Err((_, refused)) => Err(refused),
+        }
+    }
+
+    /// The bytes of the name.
+    pub fn as_bytes(&self) -> &[u8]
+        ensures bytes { result.now ≡ self.now }
+        ensures name { IsName self.now }
+    {
+        self.text.get().as_slice()
+    }
+}
+
+impl Share for Name {
+    fn share(&self) -> Result<Name, NoMemory> {
+        let text = self.text.share()?;
+        Ok(Name { text })
+    }
+}
+
+fn stands_in_name(byte: u8) -> bool
+    ensures { result ≡ stands_in_name byte }
+{
+    byte != 0 && byte != b'\n' && byte != b'/'
+}
+
+fn stand_in_name(text: &[u8]) -> bool
+    ensures { result ≡ list_all stands_in_name text.now }
+{
+    text.iter().all(|b| stands_in_name(*b))
+}
+
+/// Whether the bytes are `.` or `..`.
+pub(crate) fn is_dots(text: &[u8]) -> bool
+    ensures { result ≡ is_dots text.now }
+{
+    text == b".".as_slice() || text == b"..".as_slice()
+}
+
+/// Whether all the bytes are UTF-8.
+pub(crate) fn is_utf8(text: &[u8]) -> bool
+    ensures { result ≡ is_utf8 text.now }
+{
+    match str::from_utf8(text) {
+        Ok(_) => true,
+        Err(_) => false,
+    }
+}
+
+/// By spelling.
+impl PartialEq for Name {
+    ghost use Rattle.std.specs.Str.{bytes_eq};
+    ghost use Rattle.std.specs.Cmp.{partial_equiv_from_equiv};
+    ghost use Rattle.std.proofs.lemmas.Cmp.{nat_list_eq_equiv};
+
+    ghost eq = { bytes_eq };
+
+    ghost laws = { partial_equiv_from_equiv nat_list_eq_equiv };
+
+    fn eq(&self, other: &Name) -> bool {
+        self.as_bytes() == other.as_bytes()
+    }
+}
+
+impl Eq for Name {
+    ghost use Rattle.std.proofs.lemmas.Cmp.{nat_list_eq_equiv};
+
+    ghost laws = { nat_list_eq_equiv };
+}
+
+/// A list of names.
+#[derive(Debug, Drop)]
+pub struct Names {
+    items: Vec<Name>,
+}
+
+impl Model for Names {
+    ghost use Rattle.std.specs.Prelude.{List, ℕ};
+
+    ghost Value = { List (List ℕ) };
+
+    ghost view = { λ n. n.items.items };
+}
+
+impl Names {
+    /// The names of the vector; takes no memory.
+    pub fn from_vec(items: Vec<Name>) -> Names
+        ensures { result ≡ items.items }
+    {
+        Names { items }
+    }
+
+    /// The names.
+    pub fn as_slice(&self) -> &[Name]
+        ensures { result.now ≡ self.now }
+    {
+        self.items.as_slice()
+    }
+}
+
+impl Share for Names {
+    fn share(&self) -> Result<Names, NoMemory> {
+        let items = share_all(*self.items.allocator(), &self.items)?;
+        Ok(Names { items })
+    }
+}

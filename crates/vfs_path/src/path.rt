@@ -1,0 +1,191 @@
+//! Paths.
+
+ghost use Rattle.std.specs.Prelude.{◌≡◌, ◌≤◌, ◌<◌, [], length, slice_get};
+ghost use Rattle.vfs_model.specs.Paths.{place, is_at_or_above, is_related};
+ghost use Rattle.vfs_model.specs.Retained.{place_order};
+ghost use Rattle.vfs_path.specs.Texts.{IsPath};
+
+use crate::name::{Name, Names};
+use case_order::{Case, NoMemory, Share, Shared, order, same, share_all};
+use std::cmp::Ordering;
+use std::marker::Model;
+
+/// A path: at most 64 names, from the root down. The root has none.
+///
+/// Contracts see the list of its names.
+#[derive(Debug, Drop)]
+pub struct Path {
+    names: Option<Shared<Names>>,
+}
+
+impl Model for Path {
+    ghost use Rattle.std.specs.Prelude.{List, ℕ, [], unwrap_or};
+    ghost use Rattle.vfs_path.specs.Texts.{IsPath};
+
+    ghost Value = { List (List ℕ) };
+
+    ghost view = { λ p. unwrap_or p.names [] };
+
+    ghost invariant = { λ p. IsPath (unwrap_or p.names []) };
+}
+
+impl Path {
+    /// The root, which takes no memory.
+    pub fn root() -> Path
+        ensures { result ≡ [] }
+    {
+        Path { names: None }
+    }
+
+    /// The names, from the root down.
+    pub fn as_slice(&self) -> &[Name]
+        ensures names { result.now ≡ self.now }
+        ensures path { IsPath self.now }
+    {
+        match &self.names {
+            None => &[],
+            Some(names) => names.get().as_slice(),
+        }
+    }
+
+    /// How many names the path has.
+    pub fn len(&self) -> usize
+        ensures names { result ≡ length self.now }
+        ensures short { result ≤ 64 }
+    {
+        self.as_slice().len()
+    }
+
+    /// The name at a place, counted from 0.
+    pub fn name(&self, i: usize) -> &Name
+        requires { i < length self.now }
+        ensures { slice_get self.now i ≡ Some result.now }
+    {
+        &self.as_slice()[i]
+    }
+
+    /// Whether the names are, one by one, the same as the first names of the other path.
+    pub fn is_at_or_above(&self, case: Case, other: &Path) -> bool
+        ensures { result ≡ is_at_or_above (place case self.now) (place case other.now) }
+    {
+        begin_with(case, self.as_slice(), other.as_slice())
+    }
+
+    /// Whether one of the paths is at or above the other.
+    pub fn related(&self, case: Case, other: &Path) -> bool
+        ensures { result ≡ is_related (place case self.now) (place case other.now) }
+    {
+        self.is_at_or_above(case, other) || other.is_at_or_above(case, self)
+    }
+
+    /// The order of two paths, name by name: a path comes before all below it.
+    pub fn order(&self, case: Case, other: &Path) -> Ordering
+        ensures { result ≡ place_order (place case self.now) (place case other.now) }
+    {
+        order_of(case, self.as_slice(), other.as_slice())
+    }
+}
+
+/// Whether the second list of names begins with the first.
+fn begin_with(case: Case, front: &[Name], names: &[Name]) -> bool
+    ensures { result ≡ is_at_or_above (place case front.now) (place case names.now) }
+{
+    match front {
+        [] => true,
+        [first, more @ ..] => match names {
+            [] => false,
+            [name, rest @ ..] => {
+                same(case, first.as_bytes(), name.as_bytes()) && begin_with(case, more, rest)
+            }
+        },
+    }
+}
+
+/// The order of two lists of names: the first two that differ decide, and else the lengths.
+fn order_of(case: Case, a: &[Name], b: &[Name]) -> Ordering
+    ensures { result ≡ place_order (place case a.now) (place case b.now) }
+{
+    match a {
+        [] => match b {
+            [] => Ordering::Equal,
+            _ => Ordering::Less,
+        },
+        [x, more_a @ ..] => match b {
+            [] => Ordering::Greater,
+            [y, more_b @ ..] => match order(case, x.as_bytes(), y.as_bytes()) {
+                Ordering::Equal => order_of(case, more_a, more_b),
+                decided => decided,
+            },
+        },
+    }
+}
+
+impl Share for Path {
+    fn share(&self) -> Result<Path, NoMemory> {
+        match &self.names {
+            None => Ok(Path { names: None }),
+            Some(names) => Ok(Path {
+                names: Some(names.share()?),
+            }),
+        }
+    }
+}
+
+/// By spelling.
+impl PartialEq for Path {
+    ghost use Rattle.std.specs.Str.{bytes_eq};
+    ghost use Rattle.std.specs.Cmp.Lexicographic.{pointwise};
+    ghost use Rattle.std.specs.Cmp.{partial_equiv_from_equiv};
+    ghost use Rattle.std.proofs.lemmas.Cmp.{nat_list_eq_equiv, lists_equiv};
+
+    ghost eq = { pointwise bytes_eq };
+
+    ghost laws = { partial_equiv_from_equiv (lists_equiv nat_list_eq_equiv) };
+
+    fn eq(&self, other: &Path) -> bool {
+        self.as_slice() == other.as_slice()
+    }
+}
+
+impl Eq for Path {
+    ghost use Rattle.std.proofs.lemmas.Cmp.{nat_list_eq_equiv, lists_equiv};
+
+    ghost laws = { lists_equiv nat_list_eq_equiv };
+}
+
+/// A list of paths.
+#[derive(Debug, Drop)]
+pub struct Paths {
+    items: Vec<Path>,
+}
+
+impl Model for Paths {
+    ghost use Rattle.std.specs.Prelude.{List, ℕ};
+
+    ghost Value = { List (List (List ℕ)) };
+
+    ghost view = { λ p. p.items.items };
+}
+
+impl Paths {
+    /// The paths of the vector; takes no memory.
+    pub fn from_vec(items: Vec<Path>) -> Paths
+        ensures { result ≡ items.items }
+    {
+        Paths { items }
+    }
+
+    /// The paths.
+    pub fn as_slice(&self) -> &[Path]
+        ensures { result.now ≡ self.now }
+    {
+        self.items.as_slice()
+    }
+}
+
+impl Share for Paths {
+    fn share(&self) -> Result<Paths, NoMemory> {
+        let items = share_all(*self.items.allocator(), &self.items)?;
+        Ok(Paths { items })
+    }
+}
