@@ -1,0 +1,57 @@
+-- What the types of the code stand for.
+use Rattle.std.specs.Prelude.{◌≡◌, ℕ, List, [], ◌∷◌, Option, Some}
+use Rattle.vfs_model.specs.Paths.{Path}
+use Rattle.vfs_model.specs.Edit.{Edit, Write, Refusal, Root, NoParent, NotDir, Exists, Absent, IntoItself, TooDeep, Crowded, ReadOnly}
+use Rattle.vfs_model.specs.Scanning.{Look, SeesNothing, SeesFile}
+use Rattle.world_model.specs.declared.edit.Edit.{Edit as EditValue}
+use Rattle.world_model.specs.declared.edit.Edit.TheVariants.{Write as WriteValue}
+use Rattle.world_model.specs.declared.edit.EditError.{EditError}
+use Rattle.world_model.specs.declared.edit.EditError.TheVariants as error
+use Rattle.world_model.specs.declared.edit.Events.{Events}
+use Rattle.world_model.specs.declared.edit.Events.TheVariants.{One}
+use Rattle.world_model.specs.declared.edit.ApplyError.{ApplyError}
+use Rattle.world_model.specs.declared.edit.ApplyError.TheVariants as apply_error
+use Rattle.world_model.specs.declared.entry.Entry.{Entry}
+use Rattle.world_model.specs.declared.entry.Entry.TheVariants.{Missing, File}
+
+-- the edit
+abbrev pub edit_of : EditValue → Edit
+edit_of (WriteValue p bytes) = Write p bytes
+
+-- the paths, in order
+abbrev pub events_of : Events → List Path
+events_of (One p) = p ∷ []
+
+-- what a look saw
+abbrev pub look_seen : Entry → Look
+look_seen Missing = SeesNothing
+look_seen (File bytes) = SeesFile bytes
+
+-- the refusal
+abbrev pub refusal_of : EditError → Refusal
+refusal_of error.Root = Root
+refusal_of error.NoParent = NoParent
+refusal_of error.NotDir = NotDir
+refusal_of error.Exists = Exists
+refusal_of error.Absent = Absent
+refusal_of error.IntoItself = IntoItself
+refusal_of error.TooDeep = TooDeep
+refusal_of error.Crowded = Crowded
+refusal_of error.ReadOnly = ReadOnly
+
+-- the number that is printed for a refusal
+abbrev pub number_of : EditError → ℕ
+number_of error.Root = 1
+number_of error.NoParent = 2
+number_of error.NotDir = 3
+number_of error.Exists = 4
+number_of error.Absent = 5
+number_of error.IntoItself = 6
+number_of error.TooDeep = 7
+number_of error.Crowded = 8
+number_of error.ReadOnly = 9
+
+-- a refusal is the one that is due; want of memory may come at any time
+abbrev pub IsCause : Option Refusal → ApplyError → Type 0
+IsCause due (apply_error.Refused e) = due ≡ Some (refusal_of e)
+IsCause due apply_error.NoMemory = Unit {0}

@@ -1,0 +1,12 @@
+//! Trees of files, their edits, and the queue of events that tell of edits.
+#![tactic(auto)]
+
+mod edit;
+mod entry;
+mod intake;
+mod tree;
+
+pub use edit::{ApplyError, Edit, EditError, Events};
+pub use entry::{Entry, LookError};
+pub use intake::{Fit, Front, Intake};
+pub use tree::Tree;

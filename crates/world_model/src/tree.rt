@@ -1,0 +1,53 @@
+//! Trees.
+
+ghost use Rattle.std.specs.Prelude.{◌≡◌, ◌<◌, ◌≤◌, Some, None, IfOk, IfErr, OnOk, OnErr, length};
+ghost use Rattle.vfs_model.specs.Paths.{place};
+ghost use Rattle.vfs_model.specs.World.{World, IsWorld};
+ghost use Rattle.vfs_model.specs.Edit as edits;
+ghost use Rattle.vfs_model.specs.Scanning as scanning;
+ghost use Rattle.vfs_model.specs.Faults.{Rose};
+ghost use Rattle.world_model.specs.declared.entry.LookError.TheVariants as look_error;
+ghost use Rattle.world_model.specs.Told.{TreeTold, IsApplied};
+ghost use Rattle.world_model.specs.Meaning.{edit_of, events_of, look_seen, IsCause};
+
+use crate::edit::{ApplyError, Edit, Events};
+use crate::entry::{Entry, LookError};
+use case_order::Case;
+use vfs_path::Path;
+
+/// A tree of files, which may keep its content to itself.
+///
+/// No call changes the case, nor whether the content is told. The count of faults never falls.
+pub trait Tree {
+    ghost told: { Self → TreeTold };
+
+    /// The case under which its names compare.
+    fn case(&self) -> Case
+        ensures case { result ≡ (told self.now).case }
+        ensures world { (w : World) → (told self.now).content ≡ Some w → IsWorld (told self.now).case w };
+
+    /// What is at the path, below the root. The content stays.
+    ///
+    /// `Failed` comes only where the count of faults rose in this call; `NoMemory` is want of
+    /// memory.
+    fn look(&mut self, path: &Path) -> Result<Entry, LookError>
+        requires { 0 < length path.now }
+        ensures case { (told self.new).case ≡ (told self.old).case }
+        ensures content { (told self.new).content ≡ (told self.old).content }
+        ensures faults { (told self.old).faults ≤ (told self.new).faults }
+        ensures seen { IfOk result (λ entry. (w : World) → (told self.old).content ≡ Some w → look_seen entry ≡ scanning.look (told self.old).case w (place (told self.old).case path.now)) }
+        ensures failed { IfErr result (λ e. e ≡ look_error.Failed → Rose (told self.old).faults (told self.new).faults) };
+
+    /// Does the edit, and gives the paths that tell of it.
+    ///
+    /// `Refused` carries the first refusal that holds, where the content is told; `NoMemory` is
+    /// want of memory. On either the content stays.
+    fn apply(&mut self, edit: &Edit) -> Result<Events, ApplyError>
+        ensures case { (told self.new).case ≡ (told self.old).case }
+        ensures faults { (told self.old).faults ≤ (told self.new).faults }
+        ensures events { IfOk result (λ events. events_of events ≡ edits.events (edit_of edit.now)) }
+        ensures allowed { IfOk result (λ _. (w : World) → (told self.old).content ≡ Some w → edits.refusal (told self.old).case w (edit_of edit.now) ≡ None) }
+        ensures applied { OnOk result (IsApplied (told self.old).case (edit_of edit.now) (told self.old).content (told self.new).content) }
+        ensures refused { IfErr result (λ e. (w : World) → (told self.old).content ≡ Some w → IsCause (edits.refusal (told self.old).case w (edit_of edit.now)) e) }
+        ensures kept { OnErr result ((told self.new).content ≡ (told self.old).content) };
+}
