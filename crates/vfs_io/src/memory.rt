@@ -34,7 +34,10 @@ impl Calls {
     fn next(&mut self) -> Result<(), Failed>
         ensures stated { IsErr result ↔ Contains self.old.fails.items (next_count self.old.made) }
         ensures ok { OnOk result (self.new ≡ record self.old { made = next_count self.old.made }) }
-        ensures err { OnErr result (self.new ≡ record self.old { made = next_count self.old.made; faults = next_count self.old.faults }) }
+        ensures err { OnErr result (self.new ≡ record self.old {
+          made = next_count self.old.made;
+          faults = next_count self.old.faults;
+        }) }
         ensures later { self.old.faults ≤ self.new.faults }
     {
         self.made = self.made.saturating_add(1);
@@ -68,7 +71,12 @@ impl Model for MemSource {
 
     ghost Value = { MemoryStream };
 
-    ghost view = { λ s. record { bytes = drop s.taken s.bytes.items; fails = s.calls.fails.items; calls = s.calls.made; faults = s.calls.faults } };
+    ghost view = { λ s. record {
+      bytes = drop s.taken s.bytes.items;
+      fails = s.calls.fails.items;
+      calls = s.calls.made;
+      faults = s.calls.faults;
+    } };
 
     ghost invariant = { λ s. s.taken ≤ length s.bytes.items };
 }
@@ -129,7 +137,12 @@ impl Model for MemSink {
 
     ghost Value = { MemoryStream };
 
-    ghost view = { λ s. record { bytes = s.bytes.items; fails = s.calls.fails.items; calls = s.calls.made; faults = s.calls.faults } };
+    ghost view = { λ s. record {
+      bytes = s.bytes.items;
+      fails = s.calls.fails.items;
+      calls = s.calls.made;
+      faults = s.calls.faults;
+    } };
 }
 
 impl MemSink {
