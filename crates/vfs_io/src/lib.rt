@@ -1,0 +1,17 @@
+//! Where bytes come from and where they go.
+//!
+//! A [`Source`] and a [`Sink`] count their faults, so that a caller's answer "the input failed" can
+//! be held to a count that rose. `traits` says what both promise, `memory` has one of each over
+//! vectors, whose stated calls fail, and `standard` one of each over any reader and writer of std.
+#![tactic(auto)]
+
+mod memory;
+mod standard;
+mod traits;
+
+pub use memory::{MemSink, MemSource};
+pub use standard::{StdSink, StdSource};
+pub use traits::{Failed, Sink, Source};
+
+#[cfg(test)]
+mod tests;
