@@ -1,6 +1,6 @@
 //! What is retained, and the versions of paths.
 
-ghost use Rattle.std.specs.Prelude.{◌≡◌, ◌<◌, ◌^◌, ◌++◌, ◌∷◌, [], List, ℕ, IfOk, OnOk, OnErr, option_map};
+ghost use Rattle.std.specs.Prelude.{◌≡◌, ◌<◌, ◌^◌, ◌+◌, ◌++◌, ◌∷◌, [], List, ℕ, IfOk, OnOk, OnErr, option_map};
 ghost use Rattle.std.specs.List.{list_any};
 ghost use Rattle.vfs_model.specs.Paths as paths;
 ghost use Rattle.vfs_model.specs.Pending as pending;
@@ -153,6 +153,7 @@ impl<R: Retain, V: Versions + Drop> Vfs<R, V> {
         requires { V.count self.old.versions < 2 ^ 62 }
         ensures case { self.new.case ≡ self.old.case }
         ensures gone { OnOk result (self.new.retained ≡ spec.after_invalidation self.old.case (paths.place self.old.case path.now) self.old.retained) }
+        ensures count { OnOk result (V.count self.new.versions ≡ V.count self.old.versions + 1) }
         ensures stands { OnOk result ((past : List paths.Path) → StandsFor (V.version self.old.versions) (V.count self.old.versions) past → StandsFor (V.version self.new.versions) (V.count self.new.versions) (past ++ paths.place self.old.case path.now ∷ [])) }
         ensures refused { OnErr result (self.new ≡ self.old) }
     {
@@ -170,6 +171,7 @@ impl<R: Retain, V: Versions + Drop> Vfs<R, V> {
         requires { V.count self.old.versions < 2 ^ 62 }
         ensures case { self.new.case ≡ self.old.case }
         ensures gone { OnOk result (self.new.retained ≡ nothing) }
+        ensures count { OnOk result (V.count self.new.versions ≡ V.count self.old.versions + 1) }
         ensures stands { OnOk result ((past : List paths.Path) → StandsFor (V.version self.old.versions) (V.count self.old.versions) past → StandsFor (V.version self.new.versions) (V.count self.new.versions) (past ++ [] ∷ [])) }
         ensures refused { OnErr result (self.new ≡ self.old) }
     {

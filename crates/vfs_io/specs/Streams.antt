@@ -1,7 +1,7 @@
 -- What contracts see of the sources and sinks of this crate.
 use Rattle.std.specs.Prelude.{ℕ, List, ◌++◌, drop, Contains}
 use Rattle.std.specs.declared.option.Option.{Option}
-use Rattle.vfs_io.specs.Faults.{next_count}
+use Rattle.vfs_model.specs.Faults.{next_count}
 
 -- a source or a sink in memory: the bytes that are left or were written, the numbers of the calls
 -- that fail, how many calls were made, and how many of them failed

@@ -3,7 +3,7 @@
 ghost use Rattle.std.specs.Prelude.{◌≡◌, ◌↔◌, ◌<◌, ◌≤◌, ◌++◌, [], length, min, take, drop, Some, Contains, IfOk, IsErr, IsOk, OnErr, OnOk};
 ghost use Rattle.std.specs.Io.{ReadsAtMost};
 ghost use Rattle.std.specs.Io.KnownBytes.{ReadConsumes};
-ghost use Rattle.vfs_io.specs.Faults.{HasCause, next_count};
+ghost use Rattle.vfs_model.specs.Faults.{HasCause, next_count};
 ghost use Rattle.vfs_io.specs.Pieces.{IsZeroAtEnd, Puts};
 ghost use Rattle.vfs_io.specs.Streams.{IsNextToFail, after_failure, after_put, after_take};
 

@@ -3,7 +3,7 @@
 ghost use Rattle.std.specs.Prelude.{◌≡◌, ◌<◌, [], length, IfOk, IsOk, OnErr, OnOk};
 ghost use Rattle.std.specs.Io.{ReadsAtMost};
 ghost use Rattle.std.specs.Io.KnownBytes.{ReadConsumes};
-ghost use Rattle.vfs_io.specs.Faults.{HasCause, next_count};
+ghost use Rattle.vfs_model.specs.Faults.{HasCause, next_count};
 ghost use Rattle.vfs_io.specs.Pieces.{IsZeroAtEnd, Puts};
 
 use crate::traits::{Failed, Sink, Source};

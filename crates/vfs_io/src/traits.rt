@@ -4,7 +4,7 @@ ghost use Rattle.std.specs.Prelude.{ℕ, List, ◌<◌, length, IfOk};
 ghost use Rattle.std.specs.declared.option.Option.{Option};
 ghost use Rattle.std.specs.Io.{ReadsAtMost};
 ghost use Rattle.std.specs.Io.KnownBytes.{ReadConsumes};
-ghost use Rattle.vfs_io.specs.Faults.{HasCause};
+ghost use Rattle.vfs_model.specs.Faults.{HasCause};
 ghost use Rattle.vfs_io.specs.Pieces.{IsZeroAtEnd, Puts};
 
 /// The call failed, and the object has counted it as a fault. Nothing more is told of why.

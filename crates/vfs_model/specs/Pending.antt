@@ -29,6 +29,10 @@ put_all (e ∷ more) p = put_all more (put e p)
 abbrev pub is_hit : Case → Pending → Path → Bool
 is_hit case p x = p.mark || is_told case p.events x
 
+-- how many deliveries there are until nothing is pending: one of the mark, and one of each event
+abbrev pub deliveries_due : Pending → ℕ
+deliveries_due p = (if p.mark then 1 else 0) + length p.events
+
 -- ---- the places invalidated so far
 
 -- the greatest position, counted on from the number, of a place related to x, or 0

@@ -1,6 +1,6 @@
 //! Trees.
 
-ghost use Rattle.std.specs.Prelude.{◌≡◌, ◌<◌, ◌≤◌, Some, None, IfOk, IfErr, OnOk, OnErr, length};
+ghost use Rattle.std.specs.Prelude.{◌≡◌, ◌<◌, ◌≤◌, ℕ, Some, None, IfOk, IfErr, OnOk, OnErr, length};
 ghost use Rattle.vfs_model.specs.Paths.{place};
 ghost use Rattle.vfs_model.specs.World.{World, IsWorld};
 ghost use Rattle.vfs_model.specs.Edit as edits;
@@ -21,6 +21,9 @@ use vfs_path::Path;
 pub trait Tree {
     ghost told: { Self → TreeTold };
 
+    /// As many faults as it can ever count.
+    ghost most_faults: { ℕ };
+
     /// The case under which its names compare.
     fn case(&self) -> Case
         ensures case { result ≡ (told self.now).case }
@@ -35,6 +38,7 @@ pub trait Tree {
         ensures case { (told self.new).case ≡ (told self.old).case }
         ensures content { (told self.new).content ≡ (told self.old).content }
         ensures faults { (told self.old).faults ≤ (told self.new).faults }
+        ensures limit { (told self.new).faults ≤ most_faults }
         ensures seen { IfOk result (λ entry. (w : World) → (told self.old).content ≡ Some w → look_seen entry ≡ scanning.look (told self.old).case w (place (told self.old).case path.now)) }
         ensures failed { IfErr result (λ e. e ≡ look_error.Failed → Rose (told self.old).faults (told self.new).faults) };
 

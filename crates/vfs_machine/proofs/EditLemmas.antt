@@ -1,0 +1,108 @@
+-- A machine that stands for a state still does after an edit.
+use Rattle.std.proofs.Common.{◌≡◌, ◌≢◌, ℕ, Bool, true, false, List, [], ◌∷◌, ◌++◌, Option, Some, None, refl, sym, ap, ◌∙◌, subst, if◌then◌else◌}
+use Rattle.vfs_model.specs.declared.Case.{Case}
+use Rattle.vfs_model.specs.Paths.{Name, Path}
+use Rattle.vfs_model.specs.World.{World, Entry, IsDir, IsClosed, IsWorld, IsSameBelow, at as at_place, node_of, status_of, status_of_node}
+use Rattle.vfs_model.specs.Edit.{Edit, Refusal, refusal, apply, events}
+use Rattle.vfs_model.specs.Pending.{Pending, put_all}
+use Rattle.vfs_model.specs.State.{State, Reply, Done, Overflow, Refused, EditAnswer, Does, Refuses, CallEdit, all_fit, after_edit, edit_by, edit_answer, edit_answer_or}
+use Rattle.vfs_model.specs.Stands.{Parts, Stands}
+use Rattle.world_model.specs.Meaning.{refusal_of}
+use Rattle.world_model.specs.Told.{IsApplied}
+use Rattle.vfs_machine.specs.declared.answers.Edited.{Edited}
+use Rattle.vfs_machine.specs.declared.answers.Edited.TheVariants as edited
+use Rattle.vfs_machine.specs.Steps.{IsOutcome, IsStepOf, IsToldStepOf, edit_given, edit_answers, edited_reply}
+use Rattle.vfs_laws.proofs.SameLemmas.{same-refusal, same-apply}
+
+-- ---- one world in two lists
+
+same-trans : (case : Case) (u v w : World) → IsSameBelow case u [] v [] → IsSameBelow case v [] w [] → IsSameBelow case u [] w []
+same-trans case u v w h k = record { nodes = λ x. h.nodes x ∙ k.nodes x; names = λ x n. h.names x n ∙ k.names x n }
+
+status-node : (a b : Option Entry) → node_of a ≡ node_of b → status_of a ≡ status_of b
+status-node None None e = refl
+status-node None (Some b) e = cc
+status-node (Some a) None e = cc
+status-node (Some a) (Some b) e = let same : a.node ≡ b.node = cc in ap status_of_node same
+
+none-node : (a b : Option Entry) → node_of a ≡ node_of b → b ≡ None → a ≡ None
+none-node None b e n = refl
+none-node (Some a) None e n = cc
+none-node (Some a) (Some b) e n = cc
+
+-- a list that is one world with a closed one is closed
+same-closed : (case : Case) (v w : World) → IsSameBelow case v [] w [] → IsClosed case w → IsClosed case v
+same-closed case v w h closed x n other =
+    none-node (at_place case v (x ++ n ∷ [])) (at_place case w (x ++ n ∷ [])) (h.nodes (x ++ n ∷ []))
+    (closed x n (λ dir. other (status-node (at_place case v x) (at_place case w x) (h.nodes x) ∙ dir)))
+
+-- ---- the world after an edit
+
+applied-world : (case : Case) (s : World) (edit : Edit) (old new : Option World) → IsApplied case edit old new
+    → ((w : World) → old ≡ Some w → IsWorld case w) → ((w : World) → old ≡ Some w → refusal case w edit ≡ None) → ((w : World) → old ≡ Some w → IsSameBelow case s [] w [])
+    → (v : World) → new ≡ Some v → IsSameBelow case (apply case s edit) [] v []
+applied-world case s edit None None done whole allowed same v e = cc
+applied-world case s edit None (Some u) done whole allowed same v e = absurd done
+applied-world case s edit (Some w) None done whole allowed same v e = absurd done
+applied-world case s edit (Some w) (Some u) done whole allowed same v e =
+    let is : u ≡ v = cc in
+    let one = same w refl in
+    let closed = (whole w refl).closed in
+    same-trans case (apply case s edit) (apply case w edit) v
+    (same-apply case s w edit (same-closed case s w one closed) closed (same-refusal case s w edit one ∙ allowed w refl) one)
+    (subst (λ (z : World). IsSameBelow case (apply case w edit) [] z []) is done)
+
+-- an edit that was done
+edited-stands : {V : Type 0} (at : V → Path → ℕ) (count : V → ℕ) (m : Parts V) (s : State) (edit : Edit) (f : ℕ) (k : Option World) (q : Pending)
+    → IsApplied m.case edit m.content k → ((w : World) → m.content ≡ Some w → IsWorld m.case w) → ((w : World) → m.content ≡ Some w → refusal m.case w edit ≡ None) → q ≡ put_all (events edit) m.pending
+    → Stands at count m s → Stands at count (record m { faults = f; content = k; pending = q }) (after_edit s edit (events edit))
+edited-stands at count m s edit f k q done whole allowed queue st = record {
+  case = st.case;
+  world = λ v h. subst (λ (c : Case). IsSameBelow m.case (apply c s.world edit) [] v []) (sym st.case) (applied-world m.case s.world edit m.content k done whole allowed st.world v h);
+  pending = ap (put_all (events edit)) st.pending ∙ sym queue;
+  retained = st.retained;
+  past = st.past;
+  scans = st.scans;
+  kept = st.kept;
+}
+
+-- the reply of an edit that was done, by whether its events fit
+abbrev done_reply : Bool → Reply
+done_reply fit = if fit then Done else Overflow
+
+-- the edit was done
+pub edit-done : {V : Type 0} (at : V → Path → ℕ) (count : V → ℕ) (m : Parts V) (s : State) (edit : Edit) (fit : Bool) (f : ℕ) (k : Option World) (q : Pending) (told : List Path)
+    → told ≡ events edit → fit ≡ all_fit told m.pending → q ≡ put_all told m.pending
+    → IsApplied m.case edit m.content k → ((w : World) → m.content ≡ Some w → IsWorld m.case w) → ((w : World) → m.content ≡ Some w → refusal m.case w edit ≡ None)
+    → Stands at count m s
+    → ((if fit then Done else Overflow) ≡ (edit_by s edit (Does (events edit))).reply) × Stands at count (record m { faults = f; content = k; pending = q }) (edit_by s edit (Does (events edit))).state
+edit-done at count m s edit fit f k q told is fits queue done whole allowed st = (
+  ap (λ (b : Bool). if b then Done else Overflow) (fits ∙ (λ i. all_fit (is i) (sym st.pending i))),
+  edited-stands at count m s edit f k q done whole allowed (queue ∙ ap (λ e. put_all e m.pending) is) st,
+)
+
+-- the tree's word to the edit was this one
+abbrev pub IsDueAnswer : Option Refusal → Edited → Type 0
+IsDueAnswer due edited.Done = due ≡ None
+IsDueAnswer due edited.Overflow = due ≡ None
+IsDueAnswer due (edited.Refused e) = due ≡ Some (refusal_of e)
+IsDueAnswer due edited.NoMemory = Unit {0}
+
+told-by : {V : Type 0} (at : V → Path → ℕ) (count : V → ℕ) (new : Parts V) (e : Edit) (s : State) (result : Edited) → IsDueAnswer (refusal s.case s.world e) result
+    → IsOutcome (edited_reply result) s (edit_by s e (edit_given e result)) (Stands at count new)
+    → IsOutcome (edited_reply result) s (edit_by s e (edit_answer s e)) (Stands at count new)
+told-by at count new e s edited.Done due h = subst (λ (a : EditAnswer). (Done ≡ (edit_by s e a).reply) × Stands at count new (edit_by s e a).state) (sym (ap (edit_answer_or e) due)) h
+told-by at count new e s edited.Overflow due h = subst (λ (a : EditAnswer). (Overflow ≡ (edit_by s e a).reply) × Stands at count new (edit_by s e a).state) (sym (ap (edit_answer_or e) due)) h
+told-by at count new e s (edited.Refused r) due h = subst (λ (a : EditAnswer). (Refused (refusal_of r) ≡ (edit_by s e a).reply) × Stands at count new (edit_by s e a).state) (sym (ap (edit_answer_or e) due)) h
+told-by at count new e s edited.NoMemory due h = h
+
+due-for : (case : Case) (s : State) (w : World) (e : Edit) (result : Edited) → s.case ≡ case → IsSameBelow case s.world [] w [] → IsDueAnswer (refusal case w e) result → IsDueAnswer (refusal s.case s.world e) result
+due-for case s w e result c same due =
+    subst (λ (r : Option Refusal). IsDueAnswer r result) (sym ((λ i. refusal (c i) s.world e) ∙ same-refusal case s.world w e same)) due
+
+-- over a told world the edit is the model's own step
+pub edit-told : {V : Type 0} (at : V → Path → ℕ) (count : V → ℕ) (old new : Parts V) (e : Edit) (result : Edited)
+    → IsStepOf at count old new (edit_answers e result) (CallEdit e) (edited_reply result) → ((w : World) → old.content ≡ Some w → IsDueAnswer (refusal old.case w e) result)
+    → IsToldStepOf at count old new (CallEdit e) (edited_reply result)
+edit-told at count old new e result step due w told s st =
+    told-by at count new e s result (due-for old.case s w e result st.case (st.world w told) (due w told)) (step s st)

@@ -1,0 +1,6 @@
+pub mod OpenLemmas
+pub mod StandsLemmas
+pub mod SlotLemmas
+pub mod ReadLemmas
+pub mod EditLemmas
+pub mod PublishLemmas

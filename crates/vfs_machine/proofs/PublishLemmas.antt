@@ -1,0 +1,169 @@
+-- A machine that stands for a state still does after a publication.
+use Rattle.std.proofs.Common.{◌≡◌, ℕ, ◌<◌, ◌≤◌, Bool, true, false, List, [], ◌∷◌, ◌++◌, length, take, drop, Option, Some, None, option_map, slice_set, refl, sym, ap, ◌∙◌, subst, arith}
+use Rattle.std.proofs.lemmas.List.{take-append-drop}
+use Rattle.std.specs.List.{list_any}
+use Rattle.vfs_model.specs.Paths.{Path, place, is_related}
+use Rattle.vfs_model.specs.declared.Case.{Case}
+use Rattle.vfs_model.specs.Pending.{version}
+use Rattle.vfs_model.specs.Retained.{Retained, is_covered, after_store}
+use Rattle.vfs_model.specs.Scanning.{Scan, PartialSnapshot, next_left, count_left, snapshot_made, is_overtaken, locations_left, first_of}
+use Rattle.vfs_model.specs.State.{State, Reply, NoScan, Unfinished, Stale, Covered, Stored, scan_of, publish_or, publish_next, publish_done, publish_when}
+use Rattle.vfs_model.specs.Stands.{StandsFor, RunningScan, Parts, Stands, IsScanOf, IsSlotOf}
+use Rattle.vfs_laws.proofs.WalkLemmas.{locations_left-next_left, locations_left-count_left}
+use Rattle.publish_core.specs.declared.vfs.Published.{Published}
+use Rattle.publish_core.specs.declared.vfs.Published.TheVariants as answer
+use Rattle.publish_core.specs.Publication.{IsAnswer, retained_after}
+use Rattle.publish_core.proofs.SinceLemmas.{since-stale, since-fresh}
+use Rattle.vfs_machine.specs.Scans.{running_at, AreDigests, AreContentsOf}
+use Rattle.vfs_machine.specs.Publish.{IsPublished, published_reply, scans_after}
+use Rattle.vfs_machine.specs.Steps.{IsOutcome}
+use Rattle.vfs_machine.proofs.SlotLemmas.{slot-of, slots-set}
+
+-- ---- what is left
+
+first-none : (xs : List Path) → length xs ≡ 0 → first_of xs ≡ None
+first-none [] e = refl
+first-none (x ∷ xs) e = cc
+
+first-some : (xs : List Path) → 0 < length xs → (y : Path) × (first_of xs ≡ Some y)
+first-some [] h = absurd (omega (arith, h))
+first-some (x ∷ xs) h = (x, refl)
+
+none-left : (s : PartialSnapshot) → count_left s ≡ 0 → next_left s ≡ None
+none-left s e = locations_left-next_left s ∙ first-none (locations_left s) (sym (locations_left-count_left s) ∙ e)
+
+some-left : (s : PartialSnapshot) → 0 < count_left s → (y : Path) × (next_left s ≡ Some y)
+some-left s h = let f = first-some (locations_left s) (subst (λ (n : ℕ). 0 < n) (locations_left-count_left s) h) in (f.0, locations_left-next_left s ∙ f.1)
+
+-- ---- staleness
+
+-- where the scan's path leads
+where_is : {V : Type 0} (at : V → Path → ℕ) (count : V → ℕ) (m : Parts V) (s : State) (r : RunningScan) (t : Scan) → IsScanOf m.case s.past r t → Stands at count m s → place s.case t.path ≡ place m.case r.path
+where_is at count m s r t slot st = λ i. place (st.case i) (slot.path i)
+
+split-past : {V : Type 0} (at : V → Path → ℕ) (count : V → ℕ) (m : Parts V) (s : State) (k : ℕ) → Stands at count m s → StandsFor (at m.versions) (count m.versions) (take k s.past ++ drop k s.past)
+split-past at count m s k st = subst (λ (l : List Path). StandsFor (at m.versions) (count m.versions) l) (sym (take-append-drop k s.past)) st.past
+
+overtaken : {V : Type 0} (at : V → Path → ℕ) (count : V → ℕ) (m : Parts V) (s : State) (r : RunningScan) (t : Scan) → IsScanOf m.case s.past r t → Stands at count m s → r.seen < at m.versions (place m.case r.path)
+    → is_overtaken s.case s.past t ≡ true
+overtaken at count m s r t slot st h =
+    ap (λ x. list_any (λ e. is_related e x) (drop t.begun_at s.past)) (where_is at count m s r t slot st)
+    ∙ since-stale (at m.versions) (count m.versions) r.seen (take t.begun_at s.past) (drop t.begun_at s.past) (place m.case r.path) (split-past at count m s t.begun_at st) slot.seen h
+
+in-time : {V : Type 0} (at : V → Path → ℕ) (count : V → ℕ) (m : Parts V) (s : State) (r : RunningScan) (t : Scan) → IsScanOf m.case s.past r t → Stands at count m s → at m.versions (place m.case r.path) ≤ r.seen
+    → is_overtaken s.case s.past t ≡ false
+in-time at count m s r t slot st h =
+    ap (λ x. list_any (λ e. is_related e x) (drop t.begun_at s.past)) (where_is at count m s r t slot st)
+    ∙ since-fresh (at m.versions) (count m.versions) r.seen (take t.begun_at s.past) (drop t.begun_at s.past) (place m.case r.path) (split-past at count m s t.begun_at st) slot.seen h
+
+closed-stands : {V : Type 0} (at : V → Path → ℕ) (count : V → ℕ) (m : Parts V) (s : State) (c : ℕ) (old new : Retained) → old ≡ new → Stands at count m s
+    → Stands at count (record m { retained = new; scans = slice_set m.scans c None }) (record s { retained = old; scans = slice_set s.scans c None })
+closed-stands at count m s c old new e st = record {
+  case = st.case;
+  world = st.world;
+  pending = st.pending;
+  retained = e;
+  past = st.past;
+  scans = slots-set m.case s.past m.scans s.scans c None None st.scans tt;
+  kept = st.kept;
+}
+
+kept-stands : {V : Type 0} (at : V → Path → ℕ) (count : V → ℕ) (m : Parts V) (s : State) (new : Retained) → new ≡ m.retained → Stands at count m s → Stands at count (record m { retained = new }) s
+kept-stands at count m s new e st = record {
+  case = st.case;
+  world = st.world;
+  pending = st.pending;
+  retained = st.retained ∙ sym e;
+  past = st.past;
+  scans = st.scans;
+  kept = st.kept;
+}
+
+covered-is : {V : Type 0} (at : V → Path → ℕ) (count : V → ℕ) (m : Parts V) (s : State) (r : RunningScan) (t : Scan) → IsScanOf m.case s.past r t → Stands at count m s
+    → is_covered s.retained.pairs (place s.case t.path) ≡ is_covered m.retained.pairs (place m.case r.path)
+covered-is at count m s r t slot st = λ i. is_covered (st.retained i).pairs (where_is at count m s r t slot st i)
+
+publish-by : {V : Type 0} (at : V → Path → ℕ) (count : V → ℕ) (m : Parts V) (s : State) (c : ℕ) (r : RunningScan) (t : Scan) (ret : Retained) (result : Published) → IsScanOf m.case s.past r t
+    → IsAnswer (at m.versions (place m.case r.path)) r.seen (is_covered m.retained.pairs (place m.case r.path)) result
+    → ret ≡ retained_after (place m.case r.path) (snapshot_made r.partial) m.retained result
+    → Stands at count m s
+    → IsOutcome (published_reply result) s (publish_done s c t) (λ u. Stands at count (record m { retained = ret; scans = scans_after m.scans c result }) u)
+publish-by {V} at count m s c r t ret (answer.Stale n) slot ok is_ret st =
+    subst (λ (o : Bool). (Stale n ≡ (publish_when s c t o (is_covered s.retained.pairs (place s.case t.path))).reply) × Stands at count (record m { retained = ret; scans = slice_set m.scans c None }) (publish_when s c t o (is_covered s.retained.pairs (place s.case t.path))).state)
+    (sym (overtaken at count m s r t slot st ok.1)) (
+      ap Stale (ok.0 ∙ st.past.versions (place m.case r.path) ∙ ap (version s.past) (sym (where_is at count m s r t slot st))),
+      closed-stands at count m s c s.retained ret (st.retained ∙ sym is_ret) st,
+    )
+publish-by {V} at count m s c r t ret answer.Covered slot ok is_ret st =
+    subst (λ (o : Bool). (Covered ≡ (publish_when s c t o (is_covered s.retained.pairs (place s.case t.path))).reply) × Stands at count (record m { retained = ret; scans = slice_set m.scans c None }) (publish_when s c t o (is_covered s.retained.pairs (place s.case t.path))).state)
+    (sym (in-time at count m s r t slot st ok.0))
+    (subst (λ (v : Bool). (Covered ≡ (publish_when s c t false v).reply) × Stands at count (record m { retained = ret; scans = slice_set m.scans c None }) (publish_when s c t false v).state)
+    (sym (covered-is at count m s r t slot st ∙ ok.1))
+    (refl, closed-stands at count m s c s.retained ret (st.retained ∙ sym is_ret) st))
+publish-by {V} at count m s c r t ret answer.Stored slot ok is_ret st =
+    subst (λ (o : Bool). (Stored ≡ (publish_when s c t o (is_covered s.retained.pairs (place s.case t.path))).reply) × Stands at count (record m { retained = ret; scans = slice_set m.scans c None }) (publish_when s c t o (is_covered s.retained.pairs (place s.case t.path))).state)
+    (sym (in-time at count m s r t slot st ok.0))
+    (subst (λ (v : Bool). (Stored ≡ (publish_when s c t false v).reply) × Stands at count (record m { retained = ret; scans = slice_set m.scans c None }) (publish_when s c t false v).state)
+    (sym (covered-is at count m s r t slot st ∙ ok.1)) (
+      refl,
+      closed-stands at count m s c (after_store (place s.case t.path) (snapshot_made t.partial) s.retained) ret
+          ((λ i. after_store (where_is at count m s r t slot st i) (ap snapshot_made slot.partial i) (st.retained i)) ∙ sym is_ret) st,
+    ))
+publish-by at count m s c r t ret answer.NoMemory slot ok is_ret st = kept-stands at count m s ret is_ret st
+
+publish-slot : {V : Type 0} (at : V → Path → ℕ) (count : V → ℕ) (m : Parts V) (s : State) (c : ℕ) (r : Option RunningScan) (t : Option Scan) (ret : Retained) (result : Published) → IsSlotOf m.case s.past r t
+    → option_map (λ (q : RunningScan). count_left q.partial) r ≡ Some 0 → IsPublished (at m.versions) m.case m.retained r ret result → Stands at count m s
+    → IsOutcome (published_reply result) s (publish_or s c t) (λ u. Stands at count (record m { retained = ret; scans = scans_after m.scans c result }) u)
+publish-slot at count m s c None t ret result slot done ok st = absurd ok
+publish-slot at count m s c (Some r) None ret result slot done ok st = absurd slot
+publish-slot {V} at count m s c (Some r) (Some t) ret result slot done ok st =
+    let zero_left : count_left r.partial ≡ 0 = cc in
+    let end : next_left r.partial ≡ None = none-left r.partial zero_left in
+    subst (λ (q : Option Path). IsOutcome (published_reply result) s (publish_next s c t q) (λ u. Stands at count (record m { retained = ret; scans = scans_after m.scans c result }) u))
+    (sym (ap next_left slot.partial ∙ end))
+    (publish-by at count m s c r t ret result slot ok.0 ok.1 st)
+
+pub publish-done : {V : Type 0} (at : V → Path → ℕ) (count : V → ℕ) (m : Parts V) (s : State) (c : ℕ) (ret : Retained) (result : Published)
+    → option_map (λ (q : RunningScan). count_left q.partial) (running_at m.scans c) ≡ Some 0 → IsPublished (at m.versions) m.case m.retained (running_at m.scans c) ret result → Stands at count m s
+    → IsOutcome (published_reply result) s (publish_or s c (scan_of s c)) (λ u. Stands at count (record m { retained = ret; scans = scans_after m.scans c result }) u)
+publish-done at count m s c ret result done ok st = publish-slot at count m s c (running_at m.scans c) (scan_of s c) ret result (slot-of at count m s c st) done ok st
+
+closed-by : (case : Case) (past : List Path) (s : State) (c : ℕ) (P : State → Type 0) (r : Option RunningScan) (t : Option Scan) → IsSlotOf case past r t → option_map (λ (q : RunningScan). count_left q.partial) r ≡ None → P s
+    → (NoScan ≡ (publish_or s c t).reply) × P (publish_or s c t).state
+closed-by case past s c P None None slot e h = (refl, h)
+closed-by case past s c P None (Some t) slot e h = absurd slot
+closed-by case past s c P (Some r) t slot e h = cc
+
+pub publish-closed : {V : Type 0} (at : V → Path → ℕ) (count : V → ℕ) (m : Parts V) (s : State) (c : ℕ) → option_map (λ (q : RunningScan). count_left q.partial) (running_at m.scans c) ≡ None → Stands at count m s
+    → (NoScan ≡ (publish_or s c (scan_of s c)).reply) × Stands at count m (publish_or s c (scan_of s c)).state
+publish-closed at count m s c e st = closed-by m.case s.past s c (λ u. Stands at count m u) (running_at m.scans c) (scan_of s c) (slot-of at count m s c st) e st
+
+unfinished-by : (case : Case) (past : List Path) (s : State) (c k : ℕ) (P : State → Type 0) (r : Option RunningScan) (t : Option Scan) → IsSlotOf case past r t → option_map (λ (q : RunningScan). count_left q.partial) r ≡ Some k → 0 < k → P s
+    → (Unfinished k ≡ (publish_or s c t).reply) × P (publish_or s c t).state
+unfinished-by case past s c k P None t slot e h p = cc
+unfinished-by case past s c k P (Some r) None slot e h p = absurd slot
+unfinished-by case past s c k P (Some r) (Some t) slot e h p =
+    let is : count_left r.partial ≡ k = cc in
+    let some = some-left r.partial (subst (λ (n : ℕ). 0 < n) (sym is) h) in
+    subst (λ (q : Option Path). (Unfinished k ≡ (publish_next s c t q).reply) × P (publish_next s c t q).state) (sym (ap next_left slot.partial ∙ some.1))
+    (ap Unfinished (sym is ∙ ap count_left (sym slot.partial)), p)
+
+pub publish-unfinished : {V : Type 0} (at : V → Path → ℕ) (count : V → ℕ) (m : Parts V) (s : State) (c k : ℕ) → option_map (λ (q : RunningScan). count_left q.partial) (running_at m.scans c) ≡ Some k → 0 < k → Stands at count m s
+    → (Unfinished k ≡ (publish_or s c (scan_of s c)).reply) × Stands at count m (publish_or s c (scan_of s c)).state
+publish-unfinished at count m s c k e h st = unfinished-by m.case s.past s c k (λ u. Stands at count m u) (running_at m.scans c) (scan_of s c) (slot-of at count m s c st) e h st
+
+pub publish-whole : {V : Type 0} (at : V → Path → ℕ) (count : V → ℕ) (m : Parts V) (s : State) (c : ℕ) (case : Case) (ret : Retained) (versions : V) (xs : List (Option RunningScan)) (result : Published) (reply : Reply)
+    → case ≡ m.case → versions ≡ m.versions → xs ≡ scans_after m.scans c result → reply ≡ published_reply result
+    → option_map (λ (q : RunningScan). count_left q.partial) (running_at m.scans c) ≡ Some 0 → IsPublished (at m.versions) m.case m.retained (running_at m.scans c) ret result → Stands at count m s
+    → IsOutcome reply s (publish_or s c (scan_of s c)) (λ u. Stands at count (record m { case = case; retained = ret; versions = versions; scans = xs }) u)
+publish-whole {V} at count m s c case ret versions xs result reply e1 e2 e3 e4 done ok st =
+    let same : record m { retained = ret; scans = scans_after m.scans c result } ≡ record m { case = case; retained = ret; versions = versions; scans = xs } =
+    λ i. record m { case = sym e1 i; retained = ret; versions = sym e2 i; scans = sym e3 i } in
+    subst (λ (r : Reply). IsOutcome r s (publish_or s c (scan_of s c)) (λ u. Stands at count (record m { case = case; retained = ret; versions = versions; scans = xs }) u)) (sym e4)
+    (subst (λ (n : Parts V). IsOutcome (published_reply result) s (publish_or s c (scan_of s c)) (λ u. Stands at count n u)) same
+    (publish-done at count m s c ret result done ok st))
+
+-- with nothing left, the digests are those of the contents
+pub digests-of_contents : (r : Option RunningScan) (digests : List (List ℕ)) → option_map (λ (q : RunningScan). count_left q.partial) r ≡ Some 0 → AreDigests r digests → AreContentsOf r digests
+digests-of_contents None digests done h = tt
+digests-of_contents (Some r) digests done h = let zero_left : count_left r.partial ≡ 0 = cc in h (none-left r.partial zero_left)

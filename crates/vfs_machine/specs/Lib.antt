@@ -1,0 +1,6 @@
+pub mod Read
+pub mod Scans
+pub mod Whole
+pub mod Steps
+pub mod Deliveries
+pub mod Publish

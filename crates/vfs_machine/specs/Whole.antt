@@ -1,0 +1,43 @@
+-- What a machine keeps, by its parts.
+use Rattle.std.specs.Prelude.{◌≡◌, ℕ, List, [], Option, None, false, replicate, length}
+use Rattle.vfs_model.specs.declared.Case.{Case}
+use Rattle.vfs_model.specs.Pending.{Pending}
+use Rattle.vfs_model.specs.Stands.{RunningScan, Parts}
+use Rattle.world_model.specs.Told.{TreeTold}
+use Rattle.snapshot_hierarchy.specs.Held.{Held}
+use Rattle.publish_core.specs.Holds.{Holds}
+
+-- the parts of a machine; no fingerprint is kept
+abbrev pub parts_of : {V : Type 0} → TreeTold → Pending → Holds V → List (Option RunningScan) → Parts V
+parts_of told pending holds scans = record {
+  case = holds.case;
+  content = told.content;
+  faults = told.faults;
+  pending = pending;
+  retained = holds.retained;
+  versions = holds.versions;
+  scans = scans;
+  kept = [];
+}
+
+-- the tree and what is retained have one case, and there are sixteen scans
+pub record IsWhole (tree case : Case) (scans : List (Option RunningScan)) : Type 0 where
+  pub one_case : tree ≡ case
+  pub sixteen : length scans ≡ 16
+
+-- what a machine keeps at first: sixteen closed scans, and nothing pending
+abbrev pub opening_parts : {V : Type 0} → TreeTold → ℕ → Held → V → Parts V
+opening_parts told queue held versions = record {
+  case = held.case;
+  content = told.content;
+  faults = told.faults;
+  pending = record { events = []; capacity = queue; mark = false };
+  retained = held.retained;
+  versions = versions;
+  scans = replicate 16 None;
+  kept = [];
+}
+
+-- what a machine's tree tells
+abbrev pub told_of : {V : Type 0} → Parts V → TreeTold
+told_of m = record { case = m.case; content = m.content; faults = m.faults }

@@ -1,0 +1,445 @@
+//! The machine.
+
+ghost use Rattle.std.specs.Prelude.{◌≡◌, ◌<◌, ◌≤◌, ◌^◌, ◌+◌, Some, None, [], ◌∷◌, true, false, IfOk, IfErr, OnErr, IsTrue, ◌↔◌, ℕ, length, is_some, option_map, replicate};
+ghost use Rattle.std.specs.Option.{option_copied};
+ghost use Rattle.vfs_model.specs.Paths as paths;
+ghost use Rattle.vfs_model.specs.Pending as pending;
+ghost use Rattle.vfs_model.specs.Scanning as scanning;
+ghost use Rattle.vfs_model.specs.State as state;
+ghost use Rattle.vfs_model.specs.Sound.{IsSettled};
+ghost use Rattle.world_model.specs.Front.{IsFirst};
+ghost use Rattle.vfs_model.specs.World.{World};
+ghost use Rattle.vfs_model.specs.History.{opening};
+ghost use Rattle.snapshot_hierarchy.specs.Held.{nothing};
+ghost use Rattle.vfs_model.specs.Faults.{Rose};
+ghost use Rattle.vfs_model.specs.Stands.{Stands, StandsFor};
+ghost use Rattle.snapshot_tree.specs.Meaning.{meaning_of, glance_of};
+ghost use Rattle.world_model.specs.Meaning.{edit_of, events_of, look_seen};
+ghost use Rattle.vfs_machine.specs.declared.answers.Readed.TheVariants as readed;
+ghost use Rattle.vfs_machine.specs.Scans.{running_at, AreDigests, AreContentsOf};
+ghost use Rattle.vfs_machine.specs.Deliveries.{Counts, IsDue};
+ghost use Rattle.vfs_machine.specs.Whole.{opening_parts, told_of};
+ghost use Rattle.vfs_machine.specs.Steps.{IsStepOf, IsToldStepOf, IsRead, edit_answers, edited_reply, fit_reply, delivered_reply, began_reply, readed_reply, answer_reply};
+ghost use Rattle.vfs_machine.specs.Publish.{IsPublished, published_reply, scans_after};
+
+use crate::answers::{Answer, Began, Delivered, Edited, Readed};
+use crate::scan::{Next, Scan, contents_of, is_open, left_of, next_of, see_in, set_scan};
+use case_order::{NoMemory, Share};
+use merkle_hash::{Bytes, Digest};
+use publish_core::{Published, Vfs};
+use snapshot_hierarchy::Retain;
+use snapshot_tree::{Glance, Kind, Snapshot};
+use std::alloc::Global;
+use std::marker::Model;
+use version_hierarchy::Versions;
+use vfs_path::Path;
+use world_model::{
+    ApplyError, Edit, Entry, Events, Fit, Front, Intake, LookError, Tree,
+};
+
+/// A tree, the events that wait, what is retained with the versions of paths, and sixteen numbered
+/// scans, each closed or in progress.
+///
+/// Contracts see these parts as plain data, and say of each call: for every state of the model that
+/// the machine stands for before it, the machine stands afterwards for the state of the model's
+/// step, and the answer is that of the step. Where an answer is `NoMemory` the machine stands for
+/// the states that it stood for before.
+pub struct Machine<T: Tree, R: Retain, V: Versions> {
+    tree: T,
+    intake: Intake,
+    vfs: Vfs<R, V>,
+    scans: Vec<Option<Scan>>,
+}
+
+impl<T: Tree, R: Retain, V: Versions> Model for Machine<T, R, V> {
+    ghost use Rattle.vfs_model.specs.Stands.{Parts};
+    ghost use Rattle.vfs_model.specs.Code.{parts_code};
+    ghost use Rattle.vfs_machine.specs.Whole.{parts_of, IsWhole};
+
+    ghost Value = { Parts V };
+
+    ghost coded = { parts_code V.code };
+
+    ghost view = { λ m. parts_of (T.told m.tree) m.intake m.vfs m.scans.items };
+
+    ghost invariant = { λ m. IsWhole (T.told m.tree).case m.vfs.case m.scans.items };
+}
+
+/// Queues the events of an edit; false where one did not fit.
+fn put_all(intake: &mut Intake, events: Events) -> bool
+    ensures fit { result ≡ state.all_fit (events_of events) intake.old }
+    ensures queue { intake.new ≡ pending.put_all (events_of events) intake.old }
+{
+    match events {
+        Events::One(path) => intake.put(path) == Fit::Fits,
+    }
+}
+
+impl<T: Tree, R: Retain, V: Versions> Machine<T, R, V> {
+    /// Edits the tree; the events of the edit are queued in the same step.
+    ///
+    /// `Overflow` comes exactly where an event did not fit, `Refused` as the tree refuses.
+    pub fn edit(&mut self, edit: &Edit) -> Edited
+        ensures step { IsStepOf V.version V.count self.old self.new (edit_answers (edit_of edit.now) result) (state.CallEdit (edit_of edit.now)) (edited_reply result) }
+        ensures told { IsToldStepOf V.version V.count self.old self.new (state.CallEdit (edit_of edit.now)) (edited_reply result) }
+        ensures tells { is_some self.new.content ≡ is_some self.old.content }
+        ensures faults { self.old.faults ≤ self.new.faults }
+        ensures versions { self.new.versions ≡ self.old.versions }
+        ensures waiting { pending.deliveries_due self.new.pending ≤ pending.deliveries_due self.old.pending + 1 }
+    {
+        // The tree's word that what it tells is a world.
+        let _case = self.tree.case();
+        match self.tree.apply(edit) {
+            Ok(events) => {
+                if put_all(&mut self.intake, events) {
+                    Edited::Done
+                } else {
+                    Edited::Overflow
+                }
+            }
+            Err(ApplyError::Refused(e)) => Edited::Refused(e),
+            Err(ApplyError::NoMemory) => Edited::NoMemory,
+        }
+    }
+
+    /// Queues an event that was told from outside; takes no memory.
+    pub fn event(&mut self, path: Path) -> Fit
+        ensures step { (a : state.Answers) → IsStepOf V.version V.count self.old self.new a (state.CallEvent path) (fit_reply result) }
+        ensures content { told_of self.new ≡ told_of self.old }
+        ensures versions { self.new.versions ≡ self.old.versions }
+    {
+        self.intake.put(path)
+    }
+
+    /// Events were lost: those that wait go, and the mark is set; takes no memory.
+    pub fn lose(&mut self)
+        ensures step { (a : state.Answers) → IsStepOf V.version V.count self.old self.new a state.CallLose state.Lost }
+        ensures content { told_of self.new ≡ told_of self.old }
+        ensures versions { self.new.versions ≡ self.old.versions }
+    {
+        self.intake.lose();
+    }
+
+    /// Whether no event waits and the mark is clear; takes no memory.
+    pub fn settled(&self) -> bool
+        ensures { (s : state.State) → Stands V.version V.count self.now s → IsTrue result ↔ IsSettled s }
+    {
+        self.intake.settled()
+    }
+}
+
+/// What is to be delivered next.
+enum Due {
+    /// The mark of lost events.
+    Mark,
+    /// The first event.
+    Event(Path),
+    /// Nothing is pending.
+    Nothing,
+}
+
+fn next_due(intake: &Intake) -> Result<Due, NoMemory>
+    ensures { IfOk result (IsDue intake.now) }
+{
+    match intake.front() {
+        Front::Mark => Ok(Due::Mark),
+        Front::Event(path) => Ok(Due::Event(path.share()?)),
+        Front::Empty => Ok(Due::Nothing),
+    }
+}
+
+impl<T: Tree, R: Retain, V: Versions + Drop> Machine<T, R, V> {
+    /// Delivers what waits: the mark where it is set, and else the first event.
+    ///
+    /// `Event` after its path was invalidated, `Cleared` after all was forgotten for the mark;
+    /// `Nothing` exactly where the machine is settled. The event or the mark leaves the queue only
+    /// with the invalidation.
+    pub fn deliver(&mut self) -> Delivered
+        requires { V.count self.old.versions < 2 ^ 62 }
+        ensures step { (a : state.Answers) → IsStepOf V.version V.count self.old self.new a state.CallDeliver (delivered_reply result) }
+        ensures counts { Counts result (V.count self.old.versions) (V.count self.new.versions) (pending.deliveries_due self.old.pending) (pending.deliveries_due self.new.pending) }
+        ensures content { told_of self.new ≡ told_of self.old }
+    {
+        match next_due(&self.intake) {
+            Err(NoMemory) => Delivered::NoMemory,
+            Ok(Due::Nothing) => Delivered::Nothing,
+            Ok(Due::Mark) => self.deliver_mark(),
+            Ok(Due::Event(path)) => self.deliver_event(path),
+        }
+    }
+
+    fn deliver_mark(&mut self) -> Delivered
+        requires count { V.count self.old.versions < 2 ^ 62 }
+        requires mark { self.old.pending.mark ≡ true }
+        ensures step { (a : state.Answers) → IsStepOf V.version V.count self.old self.new a state.CallDeliver (delivered_reply result) }
+        ensures counts { Counts result (V.count self.old.versions) (V.count self.new.versions) (pending.deliveries_due self.old.pending) (pending.deliveries_due self.new.pending) }
+        ensures content { told_of self.new ≡ told_of self.old }
+    {
+        match self.vfs.drop_all() {
+            Err(NoMemory) => Delivered::NoMemory,
+            Ok(()) => {
+                self.intake.drop_front();
+                Delivered::Cleared
+            }
+        }
+    }
+
+    fn deliver_event(&mut self, path: Path) -> Delivered
+        requires count { V.count self.old.versions < 2 ^ 62 }
+        requires mark { self.old.pending.mark ≡ false }
+        requires first { IsFirst self.old.pending.events path }
+        ensures step { (a : state.Answers) → IsStepOf V.version V.count self.old self.new a state.CallDeliver (delivered_reply result) }
+        ensures counts { Counts result (V.count self.old.versions) (V.count self.new.versions) (pending.deliveries_due self.old.pending) (pending.deliveries_due self.new.pending) }
+        ensures content { told_of self.new ≡ told_of self.old }
+    {
+        match self.vfs.invalidate(&path) {
+            Err(NoMemory) => Delivered::NoMemory,
+            Ok(()) => {
+                self.intake.drop_front();
+                Delivered::Event(path)
+            }
+        }
+    }
+}
+
+fn kind_of(entry: &Entry) -> Kind
+    ensures { result ≡ state.kind_of_look (look_seen entry.now) }
+{
+    match entry {
+        Entry::Missing => Kind::Missing,
+        Entry::File(_) => Kind::File,
+    }
+}
+
+impl<T: Tree, R: Retain, V: Versions> Machine<T, R, V> {
+    /// Begins the scan with the number, 0 to 15, at a path below the root, and answers the path's
+    /// version, which is read before the location is.
+    ///
+    /// `AlreadyOpen` comes exactly where the scan is in progress.
+    pub fn begin(&mut self, scan: u64, path: &Path) -> Began
+        requires number { scan < 16 }
+        requires below { 0 < length path.now }
+        ensures step { (a : state.Answers) → IsStepOf V.version V.count self.old self.new a (state.CallBegin scan path.now) (began_reply result) }
+        ensures content { told_of self.new ≡ told_of self.old }
+        ensures versions { self.new.versions ≡ self.old.versions }
+    {
+        if is_open(&self.scans, scan as usize) {
+            return Began::AlreadyOpen;
+        }
+        match path.share() {
+            Err(NoMemory) => Began::NoMemory,
+            Ok(path) => {
+                let ticket = self.vfs.begin(path);
+                let version = ticket.seen;
+                set_scan(&mut self.scans, scan as usize, Some(Scan::begin(ticket)));
+                Began::Version(version)
+            }
+        }
+    }
+
+    /// Looks at the next location of the scan with the number.
+    ///
+    /// `NoScan` comes exactly where the scan is closed, `Done` exactly where no location is left,
+    /// and `Fault` only where the tree's count of faults rose in this call; after it the scan is
+    /// as before.
+    pub fn read(&mut self, scan: u64) -> Readed
+        requires { scan < 16 }
+        ensures read { IsRead V.version V.count self.old self.new scan result }
+        ensures told { (result ≡ readed.Fault → ⊥) → IsToldStepOf V.version V.count self.old self.new (state.CallRead scan) (readed_reply result) }
+        ensures fault { result ≡ readed.Fault → Rose self.old.faults self.new.faults × (self.new.faults ≤ T.most_faults) }
+        ensures faults { self.old.faults ≤ self.new.faults }
+        ensures content { self.new.content ≡ self.old.content }
+        ensures versions { self.new.versions ≡ self.old.versions }
+    {
+        let path = match next_of(&self.scans, scan as usize) {
+            Err(NoMemory) => return Readed::NoMemory,
+            Ok(Next::Closed) => return Readed::NoScan,
+            Ok(Next::Done) => return Readed::Done,
+            Ok(Next::Location(path)) => path,
+        };
+        let entry = match self.tree.look(&path) {
+            Err(LookError::Failed) => return Readed::Fault,
+            Err(LookError::NoMemory) => return Readed::NoMemory,
+            Ok(entry) => entry,
+        };
+        let kind = kind_of(&entry);
+        let left = see_in(&mut self.scans, scan as usize, entry);
+        Readed::Saw(path, kind, left)
+    }
+
+    /// The bytes of the files that the scan with the number has read, in order; None exactly where
+    /// it is closed. Takes no memory.
+    pub fn contents(&self, scan: u64) -> Option<&[Bytes]>
+        requires { scan < 16 }
+        ensures bytes { option_copied result ≡ option_map (λ r. scanning.contents r.partial) (running_at self.now.scans scan) }
+        ensures state { (s : state.State) → Stands V.version V.count self.now s → option_copied result ≡ option_map (λ t. scanning.contents t.partial) (state.scan_of s scan) }
+    {
+        contents_of(&self.scans, scan as usize)
+    }
+}
+
+/// Publishes the scan with the number, which is in progress with nothing left.
+fn publish_scan<R: Retain, V: Versions>(
+    vfs: &mut Vfs<R, V>,
+    scans: &[Option<Scan>],
+    scan: usize,
+    digests: &[Digest],
+) -> Published
+    requires number { scan < length scans.now }
+    requires open { is_some (running_at scans.now scan) ≡ true }
+    requires digests { AreContentsOf (running_at scans.now scan) digests.now }
+    ensures case { vfs.new.case ≡ vfs.old.case }
+    ensures versions { vfs.new.versions ≡ vfs.old.versions }
+    ensures published { IsPublished (V.version vfs.old.versions) vfs.old.case vfs.old.retained (running_at scans.now scan) vfs.new.retained result }
+{
+    match &scans[scan] {
+        None => unreachable!(),
+        Some(scan) => vfs.publish(scan.ticket(), scan.snapshot(digests)),
+    }
+}
+
+/// Every answer but want of memory closes the scan.
+fn close_after(scans: &mut Vec<Option<Scan>>, scan: usize, published: Published) -> Answer
+    requires { scan < length scans.old.items }
+    ensures reply { answer_reply result ≡ published_reply published }
+    ensures scans { scans.new.items ≡ scans_after scans.old.items scan published }
+    ensures sixteen { length scans.new.items ≡ length scans.old.items }
+{
+    let answer = match published {
+        Published::NoMemory => return Answer::NoMemory,
+        Published::Stale(version) => Answer::Stale(version),
+        Published::Covered => Answer::Covered,
+        Published::Stored => Answer::Stored,
+    };
+    set_scan(scans, scan, None);
+    answer
+}
+
+impl<T: Tree, R: Retain, V: Versions> Machine<T, R, V> {
+    /// Publishes what the scan with the number read, whose contents have these digests, in order.
+    ///
+    /// The first that holds: `NoScan`, `Unfinished` where locations are left, `Stale` where a
+    /// related path was invalidated since the begin, `Covered`, `NoMemory`, `Stored`. Every answer
+    /// but NoScan, Unfinished and NoMemory closes the scan.
+    pub fn publish(&mut self, scan: u64, digests: &[Digest]) -> Answer
+        requires number { scan < 16 }
+        requires digests { AreDigests (running_at self.old.scans scan) digests.now }
+        ensures step { (a : state.Answers) → IsStepOf V.version V.count self.old self.new a (state.CallPublish scan) (answer_reply result) }
+        ensures content { told_of self.new ≡ told_of self.old }
+        ensures versions { self.new.versions ≡ self.old.versions }
+    {
+        match left_of(&self.scans, scan as usize) {
+            None => return Answer::NoScan,
+            Some(left) => {
+                if left > 0 {
+                    return Answer::Unfinished(left);
+                }
+            }
+        }
+        let published = publish_scan(&mut self.vfs, &self.scans, scan as usize, digests);
+        close_after(&mut self.scans, scan as usize, published)
+    }
+
+    /// The kind and the digest of what is retained at the path; takes no memory.
+    pub fn find(&self, path: &Path) -> Option<Glance>
+        ensures { (a : state.Answers) (s : state.State) → Stands V.version V.count self.now s → state.Found (option_map glance_of result) ≡ (state.step a s (state.CallFind path.now)).reply }
+    {
+        self.vfs.find(path)
+    }
+
+    /// What is retained at the path.
+    ///
+    /// The only error is want of memory.
+    pub fn part(&self, path: &Path) -> Result<Option<Snapshot>, NoMemory>
+        ensures { IfOk result (λ part. (a : state.Answers) (s : state.State) → Stands V.version V.count self.now s → state.Part (option_map meaning_of part) ≡ (state.step a s (state.CallPart path.now)).reply) }
+    {
+        self.vfs.part(path)
+    }
+
+    /// The kind of the location, where it is known; takes no memory.
+    pub fn kind(&self, path: &Path) -> Option<Kind>
+        ensures { (a : state.Answers) (s : state.State) → Stands V.version V.count self.now s → state.KindIs result ≡ (state.step a s (state.CallKind path.now)).reply }
+    {
+        self.vfs.kind(path)
+    }
+
+    /// The version of the path: the place of the last invalidation that was related to it, counted
+    /// from 1, or 0. Takes no memory.
+    pub fn version(&self, path: &Path) -> u64
+        ensures { (a : state.Answers) (s : state.State) → Stands V.version V.count self.now s → state.Version result ≡ (state.step a s (state.CallVersion path.now)).reply }
+    {
+        self.vfs.version(path)
+    }
+}
+
+/// Sixteen closed scans.
+fn closed_scans(alloc: Global) -> Result<Vec<Option<Scan>>, NoMemory>
+    ensures { IfOk result (λ scans. scans.items ≡ replicate 16 None) }
+{
+    let mut scans = Vec::new(alloc);
+    for i in 0..16usize {
+        scans.push(None)?;
+    }
+    Ok(scans)
+}
+
+/// An empty queue, and sixteen closed scans.
+fn rooms(alloc: Global, queue: u64) -> Result<(Intake, Vec<Option<Scan>>), NoMemory>
+    requires some { 1 ≤ queue }
+    requires few { queue ≤ 65536 }
+    ensures intake { IfOk result (λ made. made.0 ≡ record { events = []; capacity = queue; mark = false }) }
+    ensures scans { IfOk result (λ made. made.1.items ≡ replicate 16 None) }
+{
+    let intake = Intake::make(alloc, queue)?;
+    let scans = closed_scans(alloc)?;
+    Ok((intake, scans))
+}
+
+impl<T: Tree, R: Retain, V: Versions> Machine<T, R, V> {
+    /// A machine over the tree with nothing pending and every scan closed, and a queue for so many
+    /// events, 1 to 65,536.
+    ///
+    /// Where memory is wanting the tree and what is retained are handed back.
+    pub fn make(
+        alloc: Global,
+        tree: T,
+        retained: R,
+        versions: V,
+        queue: u64,
+    ) -> Result<Machine<T, R, V>, (T, R, V, NoMemory)>
+        requires some { 1 ≤ queue }
+        requires few { queue ≤ 65536 }
+        requires tree { (T.told tree).case ≡ (R.held retained).case }
+        requires versions { V.case versions ≡ (R.held retained).case }
+        ensures made { IfOk result (λ m. m ≡ opening_parts (T.told tree) queue (R.held retained) versions) }
+        ensures opening { IfOk result (λ m. (w : World) → (T.told tree).content ≡ Some w → (R.held retained).retained ≡ nothing → StandsFor (V.version versions) (V.count versions) [] → Stands V.version V.count m (opening (T.told tree).case queue w)) }
+        ensures tree { IfErr result (λ e. e.0 ≡ tree) }
+        ensures retained { IfErr result (λ e. e.1 ≡ retained) }
+        ensures kept { IfErr result (λ e. e.2 ≡ versions) }
+    {
+        match rooms(alloc, queue) {
+            Err(e) => Err((tree, retained, versions, e)),
+            Ok((intake, scans)) => Ok(Machine {
+                tree,
+                intake,
+                vfs: Vfs::make(retained, versions),
+                scans,
+            }),
+        }
+    }
+}
+
+impl<T: Tree, R: Retain + Drop, V: Versions + Drop> Machine<T, R, V> {
+    /// The machine's tree.
+    pub fn into_tree(self) -> T
+        ensures { T.told result ≡ told_of self }
+    {
+        let Machine {
+            tree,
+            intake: _,
+            vfs: _,
+            scans: _,
+        } = self;
+        tree
+    }
+}
