@@ -66,7 +66,7 @@ abbrev mutual
   partial_gv Unread = gnil
   partial_gv NotThere = gnum 0
   partial_gv (FileRead bytes) = gcons (gnum 0) (bytes_code.code bytes)
-  partial_gv (DirRead children) = gcons (gnum 1) (partials_gv children)
+  partial_gv (DirRead below) = gcons (gnum 1) (partials_gv below)
 
   pub partials_gv : PartialChildren → Gv
   partials_gv NoChildren = gnil

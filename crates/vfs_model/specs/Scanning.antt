@@ -58,7 +58,7 @@ abbrev mutual
   count_left Unread = 1
   count_left NotThere = 0
   count_left (FileRead bytes) = 0
-  count_left (DirRead children) = count_left_in children
+  count_left (DirRead below) = count_left_in below
 
   pub count_left_in : PartialChildren → ℕ
   count_left_in NoChildren = 0
@@ -75,7 +75,7 @@ abbrev mutual
   next_left Unread = Some []
   next_left NotThere = None
   next_left (FileRead bytes) = None
-  next_left (DirRead children) = next_left_in children
+  next_left (DirRead below) = next_left_in below
 
   pub next_left_in : PartialChildren → Option Path
   next_left_in NoChildren = None
@@ -92,7 +92,7 @@ abbrev mutual
   after_look l Unread = partial_of_look l
   after_look l NotThere = NotThere
   after_look l (FileRead bytes) = FileRead bytes
-  after_look l (DirRead children) = DirRead (after_look_in l children)
+  after_look l (DirRead below) = DirRead (after_look_in l below)
 
   pub after_look_in : Look → PartialChildren → PartialChildren
   after_look_in l NoChildren = NoChildren
@@ -103,7 +103,7 @@ abbrev pub with_child : Name → PartialSnapshot → Snapshot → Children → C
 with_child name Unread s more = more
 with_child name NotThere s more = more
 with_child name (FileRead bytes) s more = Child name s more
-with_child name (DirRead children) s more = Child name s more
+with_child name (DirRead below) s more = Child name s more
 
 -- the snapshot of what was read; children seen missing are left out
 abbrev mutual
@@ -111,7 +111,7 @@ abbrev mutual
   snapshot_made Unread = Missing
   snapshot_made NotThere = Missing
   snapshot_made (FileRead bytes) = File (digest_of_bytes bytes)
-  snapshot_made (DirRead children) = Dir (children_made children)
+  snapshot_made (DirRead below) = Dir (children_made below)
 
   pub children_made : PartialChildren → Children
   children_made NoChildren = Nothing
@@ -134,7 +134,7 @@ abbrev pub partial_at_name : Case → PartialSnapshot → Name → PartialSnapsh
 partial_at_name case Unread n = Unread
 partial_at_name case NotThere n = NotThere
 partial_at_name case (FileRead bytes) n = NotThere
-partial_at_name case (DirRead children) n = partial_child case children n
+partial_at_name case (DirRead below) n = partial_child case below n
 
 -- what the scan says of the names x below its path
 abbrev pub partial_at : Case → PartialSnapshot → Path → PartialSnapshot
@@ -146,21 +146,21 @@ abbrev pub decided_status : PartialSnapshot → Option Status
 decided_status Unread = None
 decided_status NotThere = Some IsMissing
 decided_status (FileRead bytes) = Some (IsFile (digest_of_bytes bytes))
-decided_status (DirRead children) = Some IsDir
+decided_status (DirRead below) = Some IsDir
 
 -- the spelling, unless the location was seen missing
 abbrev pub unless_missing : PartialSnapshot → Option Name → Option Name
 unless_missing Unread name = name
 unless_missing NotThere name = None
 unless_missing (FileRead bytes) name = name
-unless_missing (DirRead children) name = name
+unless_missing (DirRead below) name = name
 
 -- the children; what was not read as a directory has none
 abbrev pub partial_children : PartialSnapshot → PartialChildren
 partial_children Unread = NoChildren
 partial_children NotThere = NoChildren
 partial_children (FileRead bytes) = NoChildren
-partial_children (DirRead children) = children
+partial_children (DirRead below) = below
 
 -- how the last of the names x is spelled, where it is listed and was not seen missing
 abbrev pub told_partial_name : Case → PartialSnapshot → Path → Option Name
@@ -211,7 +211,7 @@ abbrev mutual
   contents Unread = []
   contents NotThere = []
   contents (FileRead bytes) = bytes ∷ []
-  contents (DirRead children) = contents_in children
+  contents (DirRead below) = contents_in below
 
   pub contents_in : PartialChildren → List (List ℕ)
   contents_in NoChildren = []
@@ -233,7 +233,7 @@ abbrev mutual
   IsFront Unread = Unit {0}
   IsFront NotThere = Unit {0}
   IsFront (FileRead bytes) = Unit {0}
-  IsFront (DirRead children) = AreFront children
+  IsFront (DirRead below) = AreFront below
 
   pub AreFront : PartialChildren → Type 0
   AreFront NoChildren = Unit {0}
@@ -298,7 +298,7 @@ abbrev mutual
   readings Unread = []
   readings NotThere = record { names = []; look = SeesNothing } ∷ []
   readings (FileRead bytes) = record { names = []; look = SeesFile bytes } ∷ []
-  readings (DirRead children) = record { names = []; look = SeesDir (partial_names children) } ∷ readings_in children
+  readings (DirRead below) = record { names = []; look = SeesDir (partial_names below) } ∷ readings_in below
 
   pub readings_in : PartialChildren → List Reading
   readings_in NoChildren = []
@@ -338,7 +338,7 @@ abbrev mutual
   locations_left Unread = [] ∷ []
   locations_left NotThere = []
   locations_left (FileRead bytes) = []
-  locations_left (DirRead children) = locations_left_in children
+  locations_left (DirRead below) = locations_left_in below
 
   pub locations_left_in : PartialChildren → List Path
   locations_left_in NoChildren = []
