@@ -19,6 +19,7 @@ pub record IsFrom (case : Case) (P : Pair → Type 0) (x : Path) (f : Snapshot) 
   pub above : is_at_or_above pair.path x ≡ true
   pub part : sub case pair.snapshot (drop (length pair.path) x) ≡ f
 
+-- a part that is found is that of a pair of the list, at or above the place
 pub part-from : (case : Case) (P : Pair → Type 0) (rs : List Pair) (x : Path) (f : Snapshot) → Each P rs → part_of case rs x ≡ Some f → IsFrom case P x f
 part-from case P [] x f h e = absurd (none f e)
   where
@@ -36,7 +37,7 @@ part_of-append case (r ∷ rs) qs x f e =
     (λ s. inl (rw s (rw s at e)))
     (λ s. split_or (part_of-append case rs qs x f (rw s at e)) (λ h. inl (rw s h)) (λ h. inr h))
 
--- what stays of a pair is part of it, and has nothing to do with e
+-- what an invalidation leaves of a pair is part of it, and has nothing to do with e
 pub pairs_left-are : (case : Case) (e : Path) (r : Pair) → IsTree case r.snapshot → Each (IsPiece case r.path r.snapshot e) (pairs_left case e r)
 pairs_left-are case e r tree =
     split (is_at_or_above e r.path)
@@ -118,6 +119,7 @@ after_store-at case p s retained x free on =
         strictly : (r : Pair) → is_at_or_above r.path x ≡ true → is_at_or_above p r.path ≡ false → is_at_or_above r.path p ≡ true
         strictly r u t = split_or (or_cases _ _ (above_both p r.path x on u)) (λ a. absurd (both_ways _ t a)) (λ b. b)
 
+-- elsewhere than at and below its place, a store leaves what is found
 pub after_store-elsewhere : (case : Case) (p : Path) (s : Snapshot) (retained : Retained) (x : Path) → is_at_or_above p x ≡ false → part_of case (after_store p s retained).pairs x ≡ part_of case retained.pairs x
 after_store-elsewhere case p s retained x off =
     split (is_covered retained.pairs p)

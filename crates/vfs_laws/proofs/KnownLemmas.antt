@@ -1,4 +1,4 @@
--- Known directories stay known above an invalidation, and a store makes those above it known.
+-- A store makes the directories above it known, and those above an invalidation stay known.
 use Rattle.std.proofs.Common.{◌≡◌, ◌≢◌, true, false, Bool, ◌||◌, not, List, [], ◌∷◌, ◌++◌, length, map, drop, filter, refl, sym, ap, ◌∙◌, subst, Option, Some, None, append_assoc, append-nil}
 use Rattle.std.proofs.lemmas.Bool.{both_ways, true≢false, or_left, or_right, or_parts, and_from, false_from_ne_true, not_from_false, or_cases}
 use Rattle.std.specs.List.{AllByRecursion as Each}

@@ -18,10 +18,12 @@ use Rattle.vfs_laws.proofs.ScanLemmas.{children-head, children-tail}
 
 -- ---- each of a list
 
+-- what holds of each of two lists holds of each of both
 pub each-append : {X : Type 0} (P : X → Type 0) (xs ys : List X) → Each P xs → Each P ys → Each P (xs ++ ys)
 each-append P [] ys h k = k
 each-append P (x ∷ xs) ys h k = (h.0, each-append P xs ys h.1 k)
 
+-- what holds of each holds of each that a filter leaves, and the test too
 pub each-filter : {X : Type 0} (P : X → Type 0) (t : X → Bool) (xs : List X) → Each P xs → Each (λ x. P x × (t x ≡ true)) (filter t xs)
 each-filter P t [] h = tt
 each-filter P t (x ∷ xs) h =
@@ -29,6 +31,7 @@ each-filter P t (x ∷ xs) h =
     (λ e. rw e ((h.0, e), each-filter P t xs h.1))
     (λ e. rw e (each-filter P t xs h.1))
 
+-- what holds of a pair and of each of the list holds of each once it is inserted
 pub each-insert_pair : (P : Pair → Type 0) (r : Pair) (rs : List Pair) → P r → Each P rs → Each P (insert_pair r rs)
 each-insert_pair P r [] h k = (h, tt)
 each-insert_pair P r (q ∷ rest) h k =
@@ -41,16 +44,19 @@ each-insert_dir_by P Less d q rest more h k m = (h, k)
 each-insert_dir_by P Equal d q rest more h k m = (h, k.1)
 each-insert_dir_by P Greater d q rest more h k m = (k.0, m)
 
+-- what holds of a place and of each of the list holds of each once it is inserted
 pub each-insert_dir : (P : Path → Type 0) (d : Path) (ds : List Path) → P d → Each P ds → Each P (insert_dir d ds)
 each-insert_dir P d [] h k = (h, tt)
 each-insert_dir P d (q ∷ rest) h k = each-insert_dir_by P (place_order d q) d q rest _ h k (each-insert_dir P d rest h k.1)
 
+-- so it is with several places
 pub each-insert_dirs : (P : Path → Type 0) (new ds : List Path) → Each P new → Each P ds → Each P (insert_dirs new ds)
 each-insert_dirs P [] ds h k = k
 each-insert_dirs P (d ∷ new) ds h k = each-insert_dir P d _ h.0 (each-insert_dirs P new ds h.1 k)
 
 -- ---- parts of snapshots
 
+-- what a snapshot says of names and more names, it says by its part at the names
 pub sub-append : (case : Case) (s : Snapshot) (x y : Path) → sub case s (x ++ y) ≡ sub case (sub case s x) y
 sub-append case s [] y = refl
 sub-append case s (n ∷ x) y = sub-append case (child case (children_of s) n) x y
@@ -61,6 +67,7 @@ told_name-append case s (m ∷ []) [] n e = cc
 told_name-append case s (m ∷ []) (k ∷ y) n e = e
 told_name-append case s (m ∷ o ∷ x) y n e = told_name-append case (child case (children_of s) m) (o ∷ x) y n e
 
+-- a part of a tree is a tree
 pub tree-sub : (case : Case) (s : Snapshot) (x : Path) → IsTree case s → IsTree case (sub case s x)
 tree-sub case s x tree y = subst (λ t. IsListing case (children_of t)) (sub-append case s x y) (tree (x ++ y))
 
@@ -96,6 +103,7 @@ unrelated_names [] x y k n e =
     rw (e, f) refl
 unrelated_names (a ∷ p) x y k n e = rw (same_name-refl a) (unrelated_names p x y k n e)
 
+-- each piece is a part of the snapshot that is not related to the place
 pub pieces-are : (case : Case) (p : Path) (s : Snapshot) (x : Path) → IsTree case s → Each (IsPiece case p s (p ++ x)) (pieces case p s x)
 pieces-are case p s [] tree = tt
 pieces-are case p s (n ∷ x) tree =
@@ -130,10 +138,12 @@ pieces-current case world before after e r q delivered current piece x miss =
     let found = agrees-sub case world r.path r.snapshot piece.names x (current (piece.names ++ x) miss') in
     subst (λ (t : Path × Snapshot). Agrees case world t.0 t.1 x) (λ i. (sym piece.path_is i, sym piece.snapshot_is i)) found
 
+-- without its first names, a longer path is what came behind them
 pub drop-append : (p x : Path) → drop (length p) (p ++ x) ≡ x
 drop-append [] x = refl
 drop-append (n ∷ p) x = drop-append p x
 
+-- what lies at or below a place is the place and the rest of the names
 pub rest-is : (p e : Path) → is_at_or_above p e ≡ true → p ++ drop (length p) e ≡ e
 rest-is p e h =
     let (rest, same) = rest_of p e h in
@@ -151,6 +161,7 @@ pairs_left-current case world before after e delivered r tree current =
     (pieces-are case r.path r.snapshot (drop (length r.path) e) tree))))
     (λ t. rw (s, t) (λ x miss. current x (delivered.misses (r.path ++ x) (quiet e r.path x (or_from _ _ s t)) miss), tt)))
 
+-- an invalidation leaves pairs that agree with the world, where the event waits no more
 pub all_pairs_left-current : (case : Case) (world : World) (before after : Path → Bool) (e : Path) → IsDelivered case e before after
     → (rs : List Pair) → Each (λ (r : Pair). IsTree case r.snapshot) rs → Each (IsCurrent case before world) rs → Each (IsCurrent case after world) (all_pairs_left case e rs)
 all_pairs_left-current case world before after e delivered [] trees current = tt
@@ -171,6 +182,7 @@ pub record IsDirOf (case : Case) (p : Path) (s : Snapshot) (e : Path) (d : Path)
   pub dir : status (sub case s names) ≡ IsDir
   pub above : is_at_or_above e d ≡ false
 
+-- each of these places is a directory by the snapshot, strictly above the place
 pub dirs-are : (case : Case) (p : Path) (s : Snapshot) (x : Path) → Each (IsDirOf case p s (p ++ x)) (dirs_from case p s x)
 dirs-are case p s [] = tt
 dirs-are case p Missing (n ∷ x) = tt
@@ -203,6 +215,7 @@ dirs_left-still case world before after e delivered r current =
         let found = current h.names (ap before (sym h.path_is) ∙ delivered.misses d h.above miss) in
         ap (λ z. status_of (at case world z)) h.path_is ∙ sym found.same_kind ∙ h.dir
 
+-- an invalidation leaves known directories that are directories, where the event waits no more
 pub all_dirs_left-still : (case : Case) (world : World) (before after : Path → Bool) (e : Path) → IsDelivered case e before after
     → (rs : List Pair) (ds : List Path) → Each (IsCurrent case before world) rs → Each (IsStillDir case before world) ds → Each (IsStillDir case after world) (all_dirs_left case e rs ds)
 all_dirs_left-still case world before after e delivered [] ds current still =
@@ -213,6 +226,7 @@ all_dirs_left-still case world before after e delivered (r ∷ rs) ds current st
 
 -- ---- snapshots stay trees
 
+-- an invalidation leaves trees
 pub all_pairs_left-trees : (case : Case) (e : Path) (rs : List Pair) → Each (λ (r : Pair). IsTree case r.snapshot) rs → Each (λ (r : Pair). IsTree case r.snapshot) (all_pairs_left case e rs)
 all_pairs_left-trees case e [] trees = tt
 all_pairs_left-trees case e (r ∷ rs) trees =

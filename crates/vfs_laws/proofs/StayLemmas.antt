@@ -1,4 +1,4 @@
--- What an invalidation leaves: each part that has nothing to do with the path, but for what is missing.
+-- An invalidation keeps each part that is not missing and has nothing to do with the path.
 use Rattle.std.proofs.Common.{◌≡◌, ◌≢◌, true, false, List, [], ◌∷◌, ◌++◌, length, drop, refl, sym, ap, ◌∙◌, subst, Some, None, append_assoc, Bool, ◌&&◌, ◌||◌}
 use Rattle.std.proofs.lemmas.Bool.{both_ways, true≢false, or_parts, and_from, false_from_ne_true}
 use Rattle.vfs_model.specs.declared.Case.{Case}
@@ -21,15 +21,15 @@ above-both (n ∷ p) a b = rw (same_name-refl n) (above-both p a b)
 longer-off : (p q x : Path) → is_at_or_above p x ≡ false → is_at_or_above (p ++ q) x ≡ false
 longer-off p q x off = false_from_ne_true _ (λ on. both_ways (is_at_or_above p x) off (at_or_above-trans p (p ++ q) x (at_or_above-append p q) on))
 
-part-count_left : (case : Case) (rs qs : List Pair) (x : Path) (f : Snapshot) → part_of case rs x ≡ Some f → part_of case (rs ++ qs) x ≡ Some f
-part-count_left case [] qs x f e = absurd (none f e)
+part-left : (case : Case) (rs qs : List Pair) (x : Path) (f : Snapshot) → part_of case rs x ≡ Some f → part_of case (rs ++ qs) x ≡ Some f
+part-left case [] qs x f e = absurd (none f e)
   where
     none : (f : Snapshot) → None ≡ Some f → ⊥
     none f e = cc
-part-count_left case (r ∷ rs) qs x f e =
+part-left case (r ∷ rs) qs x f e =
     split (is_at_or_above r.path x)
     (λ s. rw s (rw s at e))
-    (λ s. rw s (part-count_left case rs qs x f (rw s at e)))
+    (λ s. rw s (part-left case rs qs x f (rw s at e)))
 
 part-right : (case : Case) (rs qs : List Pair) (x : Path) → part_of case rs x ≡ None → part_of case (rs ++ qs) x ≡ part_of case qs x
 part-right case [] qs x e = refl
@@ -84,7 +84,7 @@ pieces_beside-in : (case : Case) (p : Path) (cs : Children) (n : Name) (inner : 
 pieces_beside-in case p Nothing n inner z f there found is = absurd (there (sym is ∙ sub-missing case z))
 pieces_beside-in case p (Child name s more) n inner z f there found is =
     split (is_same_name (folded_name case name) n)
-    (λ t. rw t (part-count_left case inner _ (p ++ n ∷ z) f found))
+    (λ t. rw t (part-left case inner _ (p ++ n ∷ z) f found))
     (λ t.
     let away : is_at_or_above (p ++ folded_name case name ∷ []) (p ++ n ∷ z) ≡ false = above-both p (folded_name case name ∷ []) (n ∷ z) ∙ off-and _ _ t in
     rw (t, away) (pieces_beside-in case p more n inner z f there found (rw t at is)))
@@ -119,12 +119,12 @@ pieces-at case p s (n ∷ y) (m ∷ z) f off there is =
     off-and false b e = refl
 
 -- what is found and not missing stays, where it has nothing to do with the path
-pub after_invalidation-no_change : (case : Case) (e : Path) (rs : List Pair) (x : Path) (f : Snapshot) → is_related e x ≡ false → (f ≢ Missing) → part_of case rs x ≡ Some f → part_of case (all_pairs_left case e rs) x ≡ Some f
-after_invalidation-no_change case e [] x f off there found = found
-after_invalidation-no_change case e (r ∷ rs) x f off there found =
+pub after_invalidation-keeps : (case : Case) (e : Path) (rs : List Pair) (x : Path) (f : Snapshot) → is_related e x ≡ false → (f ≢ Missing) → part_of case rs x ≡ Some f → part_of case (all_pairs_left case e rs) x ≡ Some f
+after_invalidation-keeps case e [] x f off there found = found
+after_invalidation-keeps case e (r ∷ rs) x f off there found =
     split (is_at_or_above r.path x)
-    (λ on. part-count_left case (pairs_left case e r) _ x f (one on (some-is _ f (rw on at found))))
-    (λ away. part-right case (pairs_left case e r) _ x (none away) ∙ after_invalidation-no_change case e rs x f off there (rw away at found))
+    (λ on. part-left case (pairs_left case e r) _ x f (one on (some-is _ f (rw on at found))))
+    (λ away. part-right case (pairs_left case e r) _ x (none away) ∙ after_invalidation-keeps case e rs x f off there (rw away at found))
   where
     parts : (is_at_or_above e x ≡ false) × (is_at_or_above x e ≡ false)
     parts = or_parts _ _ off
