@@ -10,7 +10,7 @@ use Rattle.vfs_laws.proofs.Splits.{split, split_or}
 use Rattle.vfs_laws.proofs.PathLemmas.{at_or_above-refl, same_place-refl, same_name-refl, same_name-true, same_place-true, rest_of}
 use Rattle.vfs_laws.proofs.EditLemmas.{apply-elsewhere}
 use Rattle.vfs_laws.proofs.WorldLemmas.{IsFree, find-append_off, find-map_off, entry_after_write-off, parent_place, removed-at, entry_after_move-gone, entry_after_move-at, last_step, each-fails, missing-none, present, accepted-root, accepted-distinct, accepted-closed, accepted-short}
-use Rattle.vfs_laws.proofs.NameLemmas.{same_place-last, split_order, order-equal, order-flip, names-in_order, listed_in-names, listed_in-head, listed_first, listed_in-insert, insert-in_order, none-after, child_place, is_child-append}
+use Rattle.vfs_laws.proofs.NameLemmas.{spelling-none, same_place-last, split_order, order-equal, order-flip, names-in_order, listed_in-names, listed_in-head, listed_first, listed_in-insert, insert-in_order, none-after, child_place, is_child-append}
 
 some≢none : {X : Type 0} (x : X) → Some x ≡ None → ⊥
 some≢none x e = cc
@@ -62,10 +62,6 @@ length-insert_new case n (m ∷ ns) h =
 
 none-spelling : (e : Option Entry) → e ≡ None → spelling_of e ≡ None
 none-spelling e h = ap spelling_of h
-
-spelling-none : (e : Option Entry) → spelling_of e ≡ None → e ≡ None
-spelling-none None h = refl
-spelling-none (Some e) h = cc
 
 -- where the children of one place are there only if those of another are, it has no more names
 fewer-names : (case : Case) (v w : World) (x y : Path) → ((k : Name) → at case w (y ++ k ∷ []) ≡ None → at case v (x ++ k ∷ []) ≡ None) → length (names case v x) ≤ length (names case w y)

@@ -2,6 +2,7 @@
 use Rattle.std.proofs.Common.{◌≡◌, ◌⊎◌, true, false, cond, not, List, [], ◌∷◌, ◌++◌, length, drop, filter, refl, sym, ap, ◌∙◌, subst, Some, None, append_assoc, append-nil, inl, inr}
 use Rattle.std.proofs.lemmas.Bool.{both_ways, or_right, or_parts, or_from, and_from, false_from_ne_true, not_from_false, or_cases}
 use Rattle.std.specs.List.{AllByRecursion as Each}
+use Rattle.std.proofs.Math.Seq.{drop-append_seam}
 use Rattle.vfs_model.specs.declared.Case.{Case}
 use Rattle.vfs_model.specs.Paths.{Path, is_at_or_above, is_related}
 use Rattle.vfs_model.specs.Snapshot.{Snapshot, sub, IsTree}
@@ -10,7 +11,7 @@ use Rattle.vfs_laws.proofs.Splits.{split, split_or}
 use Rattle.vfs_laws.proofs.PathLemmas.{at_or_above-append, at_or_above-trans, above_both}
 use Rattle.vfs_laws.proofs.OrderLemmas.{precedes-unrelated}
 use Rattle.vfs_laws.proofs.NameLemmas.{each-weaker, some-is}
-use Rattle.vfs_laws.proofs.RetainedLemmas.{IsPiece, pieces-are, each-append, sub-append, rest-is, drop-append}
+use Rattle.vfs_laws.proofs.RetainedLemmas.{IsPiece, pieces-are, each-append, sub-append, rest-is}
 
 -- a part that is found is that of some pair of the list, of which all holds that holds of each
 pub record IsFrom (case : Case) (P : Pair → Type 0) (x : Path) (f : Snapshot) : Type 0 where
@@ -72,7 +73,7 @@ after_invalidation-before case e (r ∷ rs) x f trees apart found =
     let x_is : r.path ++ (y ++ z) ≡ x = sym (append_assoc r.path y z) ∙ ap (λ p. p ++ z) (sym from.holds.path_is) ∙ rest-is from.pair.path x from.above in
     let is : sub case r.snapshot (y ++ z) ≡ f = sub-append case r.snapshot y z ∙ ap (λ s. sub case s z) (sym from.holds.snapshot_is) ∙ from.part in
     subst (λ p. part_of case (r ∷ rs) p ≡ Some f) x_is
-    (rw (at_or_above-append r.path (y ++ z), drop-append r.path (y ++ z), is) refl))
+    (rw (at_or_above-append r.path (y ++ z), drop-append_seam r.path (y ++ z), is) refl))
     (λ h.
     let old = after_invalidation-before case e rs x f trees.1 apart.1 h in
     let from = part-from case (λ q. is_related r.path q.path ≡ false) rs x f (each-weaker _ _ (λ q h. precedes-unrelated r.path q.path h) rs apart.0) old in

@@ -14,7 +14,7 @@ use Rattle.vfs_model.specs.declared.Case.{Case}
 use Rattle.vfs_model.specs.Snapshot.{Snapshot}
 use Rattle.std.specs.List.{AllByRecursion as Each}
 use Rattle.vfs_laws.proofs.NameLemmas.{each-weaker}
-use Rattle.vfs_laws.proofs.RetainedLemmas.{each-filter, each-append}
+use Rattle.vfs_laws.proofs.RetainedLemmas.{each-filter, each-append, each-drop}
 use Rattle.vfs_laws.proofs.Splits.{split}
 
 length-filter_le : {X : Type 0} (t : X → Bool) (xs : List X) → length (filter t xs) ≤ length xs
@@ -121,11 +121,6 @@ seen_inputs-count case pairs [] = omega arith
 seen_inputs-count case pairs (i ∷ more) =
     let h = seen_or-count i (part_of case pairs (place case i.root)) (seen_inputs case pairs more) (length more) (seen_inputs-count case pairs more) in
     omega (arith, h)
-
-each-drop : {X : Type 0} (P : X → Type 0) (n : ℕ) (xs : List X) → Each P xs → Each P (drop n xs)
-each-drop P zero xs h = h
-each-drop P (suc n) [] h = tt
-each-drop P (suc n) (x ∷ xs) h = each-drop P n xs h.1
 
 -- what holds of each kept fingerprint and of the new one holds of those kept then
 pub each-with_kept : (P : KeptPrint → Type 0) (ks : List KeptPrint) (k : KeptPrint) → Each P ks → P k → Each P (with_kept ks k)

@@ -1,5 +1,5 @@
 -- Names in order, and what is listed.
-use Rattle.std.proofs.Common.{◌≡◌, true, false, cond, List, [], ◌∷◌, ◌++◌, refl, sym, ap, ◌∙◌, Some, None}
+use Rattle.std.proofs.Common.{◌≡◌, true, false, cond, List, [], ◌∷◌, ◌++◌, refl, sym, ap, ◌∙◌, Option, Some, None}
 use Rattle.std.proofs.lemmas.Bool.{and_from, and_parts, both_ways, true≢false, false_from_ne_true}
 use Rattle.std.specs.declared.cmp.Ordering.{Ordering}
 use Rattle.std.specs.declared.cmp.Ordering.TheVariants.{Less, Equal, Greater}
@@ -8,7 +8,7 @@ use Rattle.std.specs.Ordering.{is_eq, ordering_reverse}
 use Rattle.std.specs.List.{AllByRecursion as Each}
 use Rattle.vfs_model.specs.declared.Case.{Case}
 use Rattle.vfs_model.specs.Paths.{Name, Path, folded_name, place, is_same_name, name_order, is_child, is_same_place, last_name}
-use Rattle.vfs_model.specs.World.{World, at, names, insert_by, insert_name, AreInOrder, listed_in, spelling_of}
+use Rattle.vfs_model.specs.World.{World, Entry, at, names, insert_by, insert_name, AreInOrder, listed_in, spelling_of}
 use Rattle.vfs_laws.proofs.Splits.{split}
 use Rattle.vfs_laws.proofs.PathLemmas.{same_name-refl, same_name-true, same_place-true, same_place-refl}
 
@@ -100,6 +100,11 @@ listed_in-insert case n (m ∷ ns) k =
     (λ s. rw s (listed_in-insert case n ns k))))
 
 -- ---- the names of a place
+
+-- where nothing is spelled, no entry is
+pub spelling-none : (e : Option Entry) → spelling_of e ≡ None → e ≡ None
+spelling-none None h = refl
+spelling-none (Some e) h = cc
 
 last_name-append : (x : Path) (n : Name) → last_name (x ++ n ∷ []) ≡ n
 last_name-append [] n = refl

@@ -3,6 +3,7 @@ use Rattle.std.proofs.Common.{◌≡◌, ◌≢◌, ◌↔◌, ℕ, suc, zero, �
 use Rattle.std.proofs.lemmas.Bool.{both_ways, true≢false}
 use Rattle.std.proofs.lemmas.List.{append-nil, append_assoc}
 use Rattle.std.proofs.Math.Seq.{drop-append_seam}
+use Rattle.std.proofs.lemmas.List.Folds.{list_any-append}
 use Rattle.std.specs.List.{list_any}
 use Rattle.vfs_model.specs.declared.Case.{Case}
 use Rattle.vfs_model.specs.declared.Kind.{Kind}
@@ -23,12 +24,7 @@ or_false true = refl
 or_false false = refl
 
 any-append_one : {X : Type 0} (t : X → Bool) (xs : List X) (x : X) → list_any t (xs ++ x ∷ []) ≡ (list_any t xs || t x)
-any-append_one t [] x = sym (or_false (t x))
-any-append_one t (y ∷ xs) x = ap (λ b. t y || b) (any-append_one t xs x) ∙ or_assoc (t y) (list_any t xs) (t x)
-  where
-    or_assoc : (a b c : Bool) → (a || (b || c)) ≡ ((a || b) || c)
-    or_assoc true b c = refl
-    or_assoc false b c = refl
+any-append_one t xs x = list_any-append t xs (x ∷ []) ∙ ap (λ b. list_any t xs || b) (sym (or_false (t x)))
 
 get-set_other : {X : Type 0} (xs : List X) (i j : ℕ) (x : X) → (i ≢ j) → slice_get (slice_set xs i x) j ≡ slice_get xs j
 get-set_other [] i j x d = refl

@@ -10,7 +10,7 @@ use Rattle.vfs_model.specs.Scanning.{Look, SeesNothing, SeesFile, SeesDir, names
 use Rattle.vfs_model.specs.Scan.{Agrees}
 use Rattle.vfs_laws.proofs.Splits.{split, split_or, split_option}
 use Rattle.vfs_laws.proofs.PathLemmas.{same_name-refl, same_name-true, rest_of}
-use Rattle.vfs_laws.proofs.NameLemmas.{names-in_order, listed_in-names, listed_in-head, none-after, some-is}
+use Rattle.vfs_laws.proofs.NameLemmas.{spelling-none, names-in_order, listed_in-names, listed_in-head, none-after, some-is}
 use Rattle.vfs_laws.proofs.ScanLemmas.{too_deep}
 
 -- a scan's spelling of a name is that in the list of the names
@@ -265,10 +265,6 @@ tells-here case world q s is = record {
   where
     by : (n : Name) → None ≡ Some n → ⊥
     by n e = cc
-
-spelling-none : (e : Option Entry) → spelling_of e ≡ None → e ≡ None
-spelling-none None h = refl
-spelling-none (Some e) h = cc
 
 not_dir : (case : Case) (world : World) (q : Path) (g : Status) → status_of (at case world q) ≡ g → (g ≢ IsDir) → IsClosed case world → (k : Name) (z : Path) → at case world (q ++ k ∷ z) ≡ None
 not_dir case world q g is other closed k z = nowhere case world q k z closed (closed q k (λ d. other (sym is ∙ d)))

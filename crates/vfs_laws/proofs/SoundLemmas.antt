@@ -22,7 +22,7 @@ use Rattle.vfs_laws.proofs.FewLemmas.{accepted-world}
 use Rattle.vfs_laws.proofs.ScanLemmas.{agreeing-scan}
 use Rattle.vfs_laws.proofs.FindLemmas.{part-from}
 use Rattle.vfs_laws.proofs.ShapeLemmas.{after_invalidation-in_shape, after_store-in_shape}
-use Rattle.vfs_laws.proofs.RetainedLemmas.{IsDelivered, agrees-sub, tree-sub, rest-is, each-append, each-filter, each-insert_pair, each-insert_dirs, all_pairs_left-current, all_dirs_left-still, quiet}
+use Rattle.vfs_laws.proofs.RetainedLemmas.{IsDelivered, agrees-sub, tree-sub, rest-is, each-append, each-drop, each-filter, each-insert_pair, each-insert_dirs, all_pairs_left-current, all_dirs_left-still, quiet}
 use Rattle.vfs_laws.proofs.ContentsLemmas.{after_read-adds}
 use Rattle.vfs_laws.proofs.ScanningLemmas.{nowhere, partial_at-unread, told-unread, after_read-tells, after_look-partial, after_look-shallow, snapshot_made-agrees, snapshot_made-tree}
 
@@ -392,11 +392,6 @@ after_publish-sound s c t is left fresh h =
     old = slot-true (IsTrueSlot s.case (is_hit_in s) s.world s.past) s.scans c t h.scans is
 
 -- ---- fingerprints
-
-each-drop : {X : Type 0} (P : X → Type 0) (n : ℕ) (xs : List X) → Each P xs → Each P (drop n xs)
-each-drop P zero xs h = h
-each-drop P (suc n) [] h = tt
-each-drop P (suc n) (x ∷ xs) h = each-drop P n xs h.1
 
 -- what is found for an input is a tree, and current
 abbrev IsTrueSeen : State → Seen → Type 0

@@ -1,6 +1,7 @@
 -- An invalidation keeps each part that is not missing and has nothing to do with the path.
 use Rattle.std.proofs.Common.{◌≡◌, ◌≢◌, true, false, List, [], ◌∷◌, ◌++◌, length, drop, refl, sym, ap, ◌∙◌, subst, Some, None, append_assoc, Bool, ◌&&◌, ◌||◌}
 use Rattle.std.proofs.lemmas.Bool.{both_ways, true≢false, or_parts, and_from, false_from_ne_true}
+use Rattle.std.proofs.Math.Seq.{drop-append_seam}
 use Rattle.vfs_model.specs.declared.Case.{Case}
 use Rattle.vfs_model.specs.Paths.{Name, Path, folded_name, is_same_name, is_at_or_above, is_related}
 use Rattle.vfs_model.specs.Snapshot.{Snapshot, Missing, Children, Nothing, Child, child, children_of, sub}
@@ -8,7 +9,7 @@ use Rattle.vfs_model.specs.Retained.{Pair, part_of, pieces_beside, pieces, pairs
 use Rattle.vfs_laws.proofs.Splits.{split}
 use Rattle.vfs_laws.proofs.PathLemmas.{same_name-refl, same_name-true, at_or_above-append, at_or_above-trans}
 use Rattle.vfs_laws.proofs.NameLemmas.{some-is}
-use Rattle.vfs_laws.proofs.RetainedLemmas.{rest-is, drop-append}
+use Rattle.vfs_laws.proofs.RetainedLemmas.{rest-is}
 
 sub-missing : (case : Case) (x : Path) → sub case Missing x ≡ Missing
 sub-missing case [] = refl
@@ -66,7 +67,7 @@ pieces_beside-other case p (Child name s more) n inner m z f off there none is =
     let k = folded_name case name in
     let on : is_at_or_above (p ++ k ∷ []) (p ++ m ∷ z) ≡ true = above-both p (k ∷ []) (m ∷ z) ∙ and_from _ _ u refl in
     let x_is : p ++ m ∷ z ≡ (p ++ k ∷ []) ++ z = (λ i. p ++ sym (same_name-true k m u) i ∷ z) ∙ sym (append_assoc p (k ∷ []) z) in
-    let rest : drop (length (p ++ k ∷ [])) (p ++ m ∷ z) ≡ z = ap (drop (length (p ++ k ∷ []))) x_is ∙ drop-append (p ++ k ∷ []) z in
+    let rest : drop (length (p ++ k ∷ [])) (p ++ m ∷ z) ≡ z = ap (drop (length (p ++ k ∷ []))) x_is ∙ drop-append_seam (p ++ k ∷ []) z in
     let part : sub case s z ≡ f = rw u at is in
     rw (t, on, rest) (ap Some part))
     (λ u.

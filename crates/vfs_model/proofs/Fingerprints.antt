@@ -9,7 +9,7 @@ use Rattle.vfs_model.specs.Edit.{Write}
 use Rattle.vfs_model.specs.Snapshot.{Missing, File, Dir, Nothing, Child}
 use Rattle.vfs_model.specs.Fingerprint.{Sensitivity, Absolute, Relative, NameOnly, Ignored, fingerprint}
 use Rattle.vfs_model.specs.State.{CallEdit, CallEvent, CallDeliver, CallBegin, CallRead, CallPublish, CallFind, CallFingerprint, Done, Fits, Delivered, NothingPending, Version, AllRead, Saw, Stored, Found, Is, Unknown}
-use Rattle.vfs_model.proofs.Shorthand.{IsRun, Line, start, file, dir, input, seen, found_file, found_dir, md5_of_a, a, abc, b, c, cw, e, f, h, l, lz, m, new, q, R, r, s, sx, sy, T, t, u, w, x, y, z}
+use Rattle.vfs_model.proofs.Shorthand.{IsRun, Line, start, file, dir, input, seen, found_file, found_dir, md5_of_a, a, abc, b, c, cw, e, f, h, l, lz, new, q, R, r, s, sx, sy, T, t, u, w, x, y, z}
 
 -- a directory, a file and a missing root in each sensitivity, and lists of roots
 each_sensitivity_of_each_kind : IsRun (start Sensitive 1024 (file (h ∷ []) a ∷ dir (r ∷ []) ∷ dir (r ∷ e ∷ []) ∷ dir (r ∷ s ∷ []) ∷ file (r ∷ s ∷ t ∷ []) abc ∷ [])) (

@@ -2,7 +2,7 @@
 use Rattle.std.specs.Prelude.{◌≡◌, ℕ, Bool, true, false, ◌&&◌, not, List, [], ◌∷◌, ◌++◌, length, drop, filter, find, if◌then◌else◌, nat_lt, nat_le, Option, Some, None, slice_get, slice_set}
 use Rattle.std.specs.List.{list_any}
 use Rattle.vfs_model.specs.Paths.{Path, Case, place, is_same_place, is_related}
-use Rattle.vfs_model.specs.World.{World, names, Kind, MissingKind, FileKind, DirKind, kind_of_status}
+use Rattle.vfs_model.specs.World.{World, Kind, MissingKind, FileKind, DirKind, kind_of_status}
 use Rattle.vfs_model.specs.Edit.{Edit, Refusal, refusal, apply, events}
 use Rattle.vfs_model.specs.Pending.{Pending, has_room, put, put_all, version}
 use Rattle.vfs_model.specs.Snapshot.{Snapshot, Missing, File, Dir, status}
