@@ -6,6 +6,7 @@ use Rattle.vfs_model.specs.Snapshot.{Snapshot, Missing, File, Dir, Nothing, Chil
 use Rattle.vfs_model.specs.Fingerprint.{Absolute, Relative, NameOnly, Ignored, FpEntry, all_entries, sorted, entry_bytes}
 use Rattle.vfs_model.proofs.Shorthand.{seen, md5_of_a, md5_of_abc, e, h, r, s, t, z}
 
+-- an entry by its path, the byte for its kind and its digest; 47 is the slash, 68 a directory, 70 a file and 77 what is missing
 abbrev entry : List ℕ → ℕ → List ℕ → FpEntry
 entry path kind digest = record { path = path; kind = kind; digest = digest }
 
@@ -22,62 +23,62 @@ absolute_directory : sorted (all_entries Sensitive [] (seen (r ∷ []) Absolute 
     ≡ entry (47 ∷ r) 68 [] ∷ entry (47 ∷ r ++ 47 ∷ e) 68 [] ∷ entry (47 ∷ r ++ 47 ∷ s) 68 [] ∷ entry (47 ∷ r ++ 47 ∷ s ++ 47 ∷ t) 70 md5_of_abc ∷ []
 absolute_directory = refl
 
--- a relative one is told by the names below the root
+-- a relative directory: each location is told by the names below the root
 relative_directory : sorted (all_entries Sensitive [] (seen (r ∷ []) Relative of_r ∷ []))
     ≡ entry [] 68 [] ∷ entry e 68 [] ∷ entry s 68 [] ∷ entry (s ++ 47 ∷ t) 70 md5_of_abc ∷ []
 relative_directory = refl
 
--- by names alone each is told by its last name, and the root by nothing
+-- a directory by names alone: each location is told by its last name, and the root by nothing
 directory_by_names : sorted (all_entries Sensitive [] (seen (r ∷ []) NameOnly of_r ∷ []))
     ≡ entry [] 68 [] ∷ entry e 68 [] ∷ entry s 68 [] ∷ entry t 70 md5_of_abc ∷ []
 directory_by_names = refl
 
--- where paths are ignored the files alone have entries
+-- a directory with its paths ignored: the files alone have entries
 ignored_directory : sorted (all_entries Sensitive [] (seen (r ∷ []) Ignored of_r ∷ []))
     ≡ entry [] 70 md5_of_abc ∷ []
 ignored_directory = refl
 
--- a file by its whole path
+-- an absolute file is told by its whole path
 absolute_file : sorted (all_entries Sensitive [] (seen (h ∷ []) Absolute (File md5_of_a) ∷ []))
     ≡ entry (47 ∷ h) 70 md5_of_a ∷ []
 absolute_file = refl
 
--- a file that is the root is told by its last name
+-- a relative file that is the root is told by its last name
 relative_file : sorted (all_entries Sensitive [] (seen (h ∷ []) Relative (File md5_of_a) ∷ []))
     ≡ entry h 70 md5_of_a ∷ []
 relative_file = refl
 
--- so it is by names alone
+-- a file by names alone is told by its last name
 file_by_name : sorted (all_entries Sensitive [] (seen (h ∷ []) NameOnly (File md5_of_a) ∷ []))
     ≡ entry h 70 md5_of_a ∷ []
 file_by_name = refl
 
--- where paths are ignored by nothing
+-- a file with its path ignored is told by nothing
 ignored_file : sorted (all_entries Sensitive [] (seen (h ∷ []) Ignored (File md5_of_a) ∷ []))
     ≡ entry [] 70 md5_of_a ∷ []
 ignored_file = refl
 
--- a missing root has an entry too, by its whole path
+-- an absolute root that is missing has an entry too, by its whole path
 absolute_missing : sorted (all_entries Sensitive [] (seen (z ∷ []) Absolute Missing ∷ []))
     ≡ entry (47 ∷ z) 77 [] ∷ []
 absolute_missing = refl
 
--- or by its last name
+-- a relative root that is missing is told by its last name
 relative_missing : sorted (all_entries Sensitive [] (seen (z ∷ []) Relative Missing ∷ []))
     ≡ entry z 77 [] ∷ []
 relative_missing = refl
 
--- so it is by names alone
+-- a missing root by names alone is told by its last name
 missing_by_name : sorted (all_entries Sensitive [] (seen (z ∷ []) NameOnly Missing ∷ []))
     ≡ entry z 77 [] ∷ []
 missing_by_name = refl
 
--- or by nothing
+-- a missing root with its path ignored is told by nothing
 ignored_missing : sorted (all_entries Sensitive [] (seen (z ∷ []) Ignored Missing ∷ []))
     ≡ entry [] 77 [] ∷ []
 ignored_missing = refl
 
--- where paths are ignored an empty directory has no entry
+-- an empty directory with its path ignored has no entry
 ignored_empty_directory : sorted (all_entries Sensitive [] (seen (r ∷ e ∷ []) Ignored (Dir Nothing) ∷ []))
     ≡ []
 ignored_empty_directory = refl

@@ -197,6 +197,7 @@ kept_for_this_very_list : IsRun (start Insensitive 1024 (dir (r ∷ []) ∷ file
     ∷ [])
 kept_for_this_very_list = refl
 
+-- each way to take a path
 abbrev sensitivities : List Sensitivity
 sensitivities = Absolute ∷ Relative ∷ NameOnly ∷ Ignored ∷ []
 

@@ -8,7 +8,7 @@ use Rattle.vfs_model.specs.Edit.{Write, Mkdir}
 use Rattle.vfs_model.specs.Scanning.{Look, SeesFile, SeesDir}
 use Rattle.vfs_model.specs.Fingerprint.{fingerprint}
 use Rattle.vfs_model.specs.State.{State, Reply, CallEdit, CallEvent, CallDeliver, CallBegin, CallRead, CallPublish, CallDrop, CallFind, CallKind, CallVersion, Done, Fits, Delivered, NothingPending, AlreadyOpen, Version, NoScan, AllRead, Saw, Unfinished, Stale, Covered, Stored, Dropped, Found, KindIs, Fault, step, told_step, Does}
-use Rattle.vfs_model.proofs.Shorthand.{IsRun, start, file, dir, found_file, found_dir, found_missing, md5_of_a, md5_of_abc, a, ab, abc, abd, b, c, d, e, f, g, l, m, n, o, p, q, s, x}
+use Rattle.vfs_model.proofs.Shorthand.{IsRun, start, file, dir, found_file, found_dir, found_missing, md5_of_a, md5_of_abc, a, ab, abc, abd, b, c, d, e, f, g, l, m, n, o, p, q, s, x, a_b}
 
 -- a file is written, the event delivered, the file scanned and found
 a_written_file_is_scanned_and_found : IsRun (start Sensitive 1024 []) (
@@ -19,8 +19,9 @@ a_written_file_is_scanned_and_found : IsRun (start Sensitive 1024 []) (
     ∷ (CallRead 0, Saw (f ∷ []) FileKind 0)
     ∷ (CallRead 0, AllRead)
     ∷ (CallPublish 0, Stored)
-    ∷ (CallFind (f ∷ []), found_file (digest_of_bytes abc))
+    ∷ (CallFind (f ∷ []), found_file md5_of_abc)
     ∷ [])
+unfolding fingerprint digest_of_bytes md5 digest_bytes hash_after compress rounds block_words
 a_written_file_is_scanned_and_found = refl
 
 -- a write that is delivered between the read and the publish makes it stale, and nothing is found
@@ -37,8 +38,8 @@ a_delivered_write_makes_stale : IsRun (start Sensitive 1024 []) (
     ∷ [])
 a_delivered_write_makes_stale = refl
 
--- one that still waits does not: what was read is found, until the delivery
-an_undelivered_write_does_not : IsRun (start Sensitive 1024 []) (
+-- a write whose event still waits makes nothing stale: what was read is found, until the delivery
+an_undelivered_write_is_stored : IsRun (start Sensitive 1024 []) (
     (CallEdit (Write (f ∷ []) abc), Done)
     ∷ (CallDeliver, Delivered (f ∷ []))
     ∷ (CallDeliver, NothingPending)
@@ -51,7 +52,7 @@ an_undelivered_write_does_not : IsRun (start Sensitive 1024 []) (
     ∷ (CallFind (f ∷ []), Found None)
     ∷ [])
 unfolding fingerprint digest_of_bytes md5 digest_bytes hash_after compress rounds block_words
-an_undelivered_write_does_not = refl
+an_undelivered_write_is_stored = refl
 
 -- an event at a directory above the scan makes it stale
 an_ancestor_makes_stale : IsRun (start Sensitive 1024 (dir (a ∷ []) ∷ file (a ∷ b ∷ []) abc ∷ [])) (
@@ -74,8 +75,8 @@ a_descendant_makes_stale : IsRun (start Sensitive 1024 (dir (a ∷ []) ∷ dir (
     ∷ [])
 a_descendant_makes_stale = refl
 
--- an event at a sibling does not, and none at a name that only begins with the same bytes
-siblings_and_text_prefixes_do_not : IsRun (start Sensitive 1024 (dir (a ∷ []) ∷ dir (a ∷ b ∷ []) ∷ file (a ∷ b ∷ c ∷ []) abc ∷ [])) (
+-- an event at a sibling makes nothing stale, and none at a name that only begins with the same bytes
+siblings_and_text_prefixes_make_nothing_stale : IsRun (start Sensitive 1024 (dir (a ∷ []) ∷ dir (a ∷ b ∷ []) ∷ file (a ∷ b ∷ c ∷ []) abc ∷ [])) (
     (CallBegin 0 (a ∷ b ∷ []), Version 0)
     ∷ (CallRead 0, Saw (a ∷ b ∷ []) DirKind 1)
     ∷ (CallRead 0, Saw (a ∷ b ∷ c ∷ []) FileKind 0)
@@ -90,7 +91,7 @@ siblings_and_text_prefixes_do_not : IsRun (start Sensitive 1024 (dir (a ∷ []) 
     ∷ (CallVersion (a ∷ []), Version 1)
     ∷ (CallVersion [], Version 2)
     ∷ [])
-siblings_and_text_prefixes_do_not = refl
+siblings_and_text_prefixes_make_nothing_stale = refl
 
 -- what is retained as missing is missing with all below it, until something is made above it
 a_missing_path_is_retained : IsRun (start Sensitive 1024 []) (
@@ -146,7 +147,7 @@ every_event_is_below_the_root : IsRun (start Sensitive 1024 []) (
     ∷ [])
 every_event_is_below_the_root = refl
 
--- with no event it is stored; an empty directory has the MD5 of the byte D
+-- with no event a scan of the empty root is stored; an empty directory has the MD5 of the byte D
 the_empty_root_has_the_digest_of_D : IsRun (start Sensitive 1024 []) (
     (CallBegin 0 [], Version 0)
     ∷ (CallRead 0, Saw [] DirKind 0)
@@ -155,6 +156,20 @@ the_empty_root_has_the_digest_of_D : IsRun (start Sensitive 1024 []) (
     ∷ [])
 unfolding fingerprint digest_of_bytes md5 digest_bytes hash_after compress rounds block_words
 the_empty_root_has_the_digest_of_D = refl
+
+-- a name may have a space in it, and a file the byte 0
+names_and_files_of_any_bytes : IsRun (start Sensitive 1024 []) (
+    (CallEdit (Write (a_b ∷ []) (0 ∷ [])), Done)
+    ∷ (CallDeliver, Delivered (a_b ∷ []))
+    ∷ (CallDeliver, NothingPending)
+    ∷ (CallBegin 0 (a_b ∷ []), Version 1)
+    ∷ (CallRead 0, Saw (a_b ∷ []) FileKind 0)
+    ∷ (CallRead 0, AllRead)
+    ∷ (CallPublish 0, Stored)
+    ∷ (CallFind (a_b ∷ []), found_file (147 ∷ 184 ∷ 133 ∷ 173 ∷ 254 ∷ 13 ∷ 160 ∷ 137 ∷ 205 ∷ 246 ∷ 52 ∷ 144 ∷ 79 ∷ 213 ∷ 159 ∷ 113 ∷ []))
+    ∷ [])
+unfolding fingerprint digest_of_bytes md5 digest_bytes hash_after compress rounds block_words
+names_and_files_of_any_bytes = refl
 
 -- an empty file has the MD5 of no bytes
 an_empty_file_has_the_digest_of_nothing : IsRun (start Sensitive 1024 []) (

@@ -8,7 +8,7 @@ use Rattle.vfs_model.specs.Snapshot.{File, Dir, Nothing, Child}
 use Rattle.vfs_model.specs.Pending.{is_hit}
 use Rattle.vfs_model.specs.Fingerprint.{Relative, fingerprint}
 use Rattle.vfs_model.specs.State.{CallEdit, CallEvent, CallLose, CallDeliver, CallBegin, CallRead, CallPublish, CallFind, CallKind, CallVersion, CallFingerprint, Done, Overflow, Fits, Lost, Cleared, Delivered, NothingPending, Version, Saw, Stale, Stored, Found, KindIs, Is, Unknown}
-use Rattle.vfs_model.proofs.Shorthand.{IsRun, start, file, dir, input, seen, found_file, a, abc, b, c, d, f, g, q, r, v, w, x, y, z}
+use Rattle.vfs_model.proofs.Shorthand.{IsRun, start, file, dir, input, seen, found_file, a, abc, b, c, d, f, g, q, r, v, w, x, y, z, zzz}
 
 -- an event that does not fit sets the mark: its delivery makes every scan stale and is a version of every place
 an_overflow_clears_everything : IsRun (start Sensitive 1 []) (
@@ -18,7 +18,7 @@ an_overflow_clears_everything : IsRun (start Sensitive 1 []) (
     ∷ (CallRead 0, Saw (f ∷ []) FileKind 0)
     ∷ (CallDeliver, Cleared)
     ∷ (CallPublish 0, Stale 1)
-    ∷ (CallVersion (z ∷ []), Version 1)
+    ∷ (CallVersion (zzz ∷ []), Version 1)
     ∷ (CallDeliver, NothingPending)
     ∷ [])
 an_overflow_clears_everything = refl

@@ -230,3 +230,6 @@ zz = 122 ∷ 122 ∷ []
 
 abbrev pub zzz : Name
 zzz = 122 ∷ 122 ∷ 122 ∷ []
+
+abbrev pub a_b : Name
+a_b = 97 ∷ 32 ∷ 98 ∷ []
