@@ -91,11 +91,11 @@ step-sound a s call few due h = record { limits = step-limits a s call few h.lim
 
 -- an operation that had memory had its step
 pub stepped : (s : State) (o : Operation) → is_no_memory o.reply ≡ false → IsLegalOperation s o → IsStep s o
-stepped s o g legal = split_or legal.reply (λ h. absurd (both_ways _ g (count_left _ _ h))) (λ h. h)
+stepped s o g legal = split_or legal.reply (λ h. absurd (both_ways _ g (first_true _ _ h))) (λ h. h)
   where
-    count_left : (a b : Bool) → (a && b) ≡ true → a ≡ true
-    count_left true b h = refl
-    count_left false b h = absurd (true≢false (sym h))
+    first_true : (a b : Bool) → (a && b) ≡ true → a ≡ true
+    first_true true b h = refl
+    first_true false b h = absurd (true≢false (sym h))
 
 -- a legal operation keeps a state sound
 pub after_operation-sound : (s : State) (o : Operation) → IsLegalOperation s o → IsSound s → IsSound (after_operation s o)

@@ -257,7 +257,7 @@ last_step (a ∷ Q) (b ∷ x) n on =
 entry_after_move-closed : (case : Case) (world : World) (p q : Path) → status_of (at case world (place case (parent q))) ≡ IsDir → IsFree case world p q → is_strictly_below case q p ≡ false → IsClosed case world → IsClosed case (apply case world (Move p q))
 entry_after_move-closed case world p q parent_dir free outside closed x n other =
     split (is_at_or_above Q (x ++ n ∷ []))
-    (λ on. split_or (last_step Q x n on) partial_at_name edge)
+    (λ on. split_or (last_step Q x n on) inside edge)
     (λ off. beyond off (not_below-child Q x n off))
   where
     P : Path
@@ -270,8 +270,8 @@ entry_after_move-closed case world p q parent_dir free outside closed x n other 
     w' = apply case world (Move p q)
 
     -- below what was moved
-    partial_at_name : is_at_or_above (place case q) x ≡ true → at case (apply case world (Move p q)) (x ++ n ∷ []) ≡ None
-    partial_at_name on =
+    inside : is_at_or_above (place case q) x ≡ true → at case (apply case world (Move p q)) (x ++ n ∷ []) ≡ None
+    inside on =
         let (z, x_is) = rest_of (place case q) x on in
         let here : status_of (at case world (place case p ++ z)) ≢ IsDir =
         λ d. other (ap (λ v. status_of (at case (apply case world (Move p q)) v)) x_is ∙ ap status_of (entry_after_move-at case world p q z closed free) ∙ entry_after_move-status case p q (at case world (place case p ++ z)) ∙ d) in

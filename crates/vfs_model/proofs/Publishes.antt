@@ -243,6 +243,20 @@ a_covered_publish_closes_the_scan : IsRun (start Sensitive 1024 (dir (d ∷ []) 
     ∷ [])
 a_covered_publish_closes_the_scan = refl
 
+-- a publish that is both stale and below a pair is stale
+stale_comes_before_covered : IsRun (start Sensitive 1024 (dir (d ∷ []) ∷ file (d ∷ a ∷ []) a ∷ [])) (
+    (CallBegin 0 (d ∷ a ∷ []), Version 0)
+    ∷ (CallRead 0, Saw (d ∷ a ∷ []) FileKind 0)
+    ∷ (CallEvent (d ∷ a ∷ []), Fits)
+    ∷ (CallDeliver, Delivered (d ∷ a ∷ []))
+    ∷ (CallBegin 1 (d ∷ []), Version 1)
+    ∷ (CallRead 1, Saw (d ∷ []) DirKind 1)
+    ∷ (CallRead 1, Saw (d ∷ a ∷ []) FileKind 0)
+    ∷ (CallPublish 1, Stored)
+    ∷ (CallPublish 0, Stale 1)
+    ∷ [])
+stale_comes_before_covered = refl
+
 -- scans of several numbers know nothing of each other
 scans_of_other_numbers_are_apart : IsRun (start Sensitive 1024 (file (f ∷ []) abc ∷ [])) (
     (CallBegin 15 (f ∷ []), Version 0)
