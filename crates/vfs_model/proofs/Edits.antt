@@ -1,8 +1,8 @@
 -- Edits: why each is refused, in which order, and what is told of one that is done.
-use Rattle.std.proofs.Common.{◌≡◌, ℕ, [], ◌∷◌, ◌++◌, refl, zero, suc}
+use Rattle.std.proofs.Common.{◌≡◌, ℕ, zero, suc, ◌+◌, ◌/◌, ◌%◌, [], ◌∷◌, ◌++◌, Some, None, refl}
 use Rattle.vfs_model.specs.declared.Case.TheVariants.{Sensitive}
 use Rattle.vfs_model.specs.World.{World, names}
-use Rattle.vfs_model.specs.Edit.{Write, Mkdir, Remove, Move, Root, NoParent, NotDir, Exists, Absent, IntoItself, TooDeep, apply}
+use Rattle.vfs_model.specs.Edit.{Write, Mkdir, Remove, Move, Root, NoParent, NotDir, Exists, Absent, IntoItself, TooDeep, Crowded, refusal, apply}
 use Rattle.vfs_model.specs.State.{CallEdit, CallDeliver, Refused, Done, Delivered, NothingPending}
 use Rattle.vfs_model.proofs.Shorthand.{IsRun, start, root, file, dir, deep, a, b, d, e, f, n, q, w, x, y, z}
 
@@ -162,3 +162,23 @@ no_path_has_65_names : IsRun (start Sensitive 1024 (nest 63 ++ (dir (y ∷ []) �
     ∷ (CallDeliver, Delivered (deep 62 ++ q ∷ []))
     ∷ [])
 no_path_has_65_names = refl
+
+-- so many files, their names of two bytes, from the number k on
+abbrev crowd : ℕ → ℕ → World
+crowd zero k = []
+crowd (suc n) k = file ((k / 256 ∷ k % 256 ∷ []) ∷ []) a ∷ crowd n (k + 1)
+
+-- a directory of 4,096 names takes no other
+a_full_directory_takes_no_name : refusal Sensitive (root ∷ crowd 4096 0) (Write (x ∷ []) a) ≡ Some Crowded
+a_full_directory_takes_no_name = refl
+
+-- one of 4,095 names takes another
+a_directory_of_4095_names_takes_one : refusal Sensitive (root ∷ crowd 4095 0) (Mkdir (x ∷ [])) ≡ None
+a_directory_of_4095_names_takes_one = refl
+
+-- in a full directory a file is written again, and moved to another name
+a_full_directory_takes_a_rewrite : refusal Sensitive (root ∷ crowd 4096 0) (Write ((0 ∷ 7 ∷ []) ∷ []) b) ≡ None
+a_full_directory_takes_a_rewrite = refl
+
+a_full_directory_takes_a_move_within : refusal Sensitive (root ∷ crowd 4096 0) (Move ((0 ∷ 7 ∷ []) ∷ []) (x ∷ [])) ≡ None
+a_full_directory_takes_a_move_within = refl

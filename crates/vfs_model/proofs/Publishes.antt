@@ -93,6 +93,21 @@ siblings_and_text_prefixes_make_nothing_stale : IsRun (start Sensitive 1024 (dir
     ∷ [])
 siblings_and_text_prefixes_make_nothing_stale = refl
 
+-- a begin and a stale publish answer the version of their own path, whatever else was invalidated
+numbers_are_those_of_the_path : IsRun (start Sensitive 1024 []) (
+    (CallBegin 0 (a ∷ []), Version 0)
+    ∷ (CallRead 0, Saw (a ∷ []) MissingKind 0)
+    ∷ (CallEvent (a ∷ []), Fits)
+    ∷ (CallEvent (b ∷ []), Fits)
+    ∷ (CallDeliver, Delivered (a ∷ []))
+    ∷ (CallDeliver, Delivered (b ∷ []))
+    ∷ (CallPublish 0, Stale 1)
+    ∷ (CallBegin 0 (a ∷ []), Version 1)
+    ∷ (CallBegin 1 (b ∷ []), Version 2)
+    ∷ (CallBegin 2 (e ∷ []), Version 0)
+    ∷ [])
+numbers_are_those_of_the_path = refl
+
 -- what is retained as missing is missing with all below it, until something is made above it
 a_missing_path_is_retained : IsRun (start Sensitive 1024 []) (
     (CallBegin 0 (m ∷ n ∷ o ∷ []), Version 0)
