@@ -90,7 +90,7 @@ step-change a s (CallKind x) = record { case = refl; retained = refl }
 step-change a s (CallVersion x) = record { case = refl; retained = refl }
 step-change a s (CallFingerprint inputs) = fingerprint-change s inputs (find (λ (k : KeptPrint). is_for_inputs inputs k.seen) s.kept)
 
--- a call without memory changes nothing
+-- a call for which memory was wanting changes nothing
 no_memory-change : (s : State) (call : Call) (r : Reply) → is_no_memory r ≡ true → changes_of s call r ≡ []
 no_memory-change s call NoMemory g = by call
   where
@@ -110,6 +110,7 @@ after_changes-append : (case : Case) (cs ds : List Change) (r : Retained) → af
 after_changes-append case [] ds r = refl
 after_changes-append case (c ∷ cs) ds r = after_changes-append case cs ds (after_change case c r)
 
+-- what is retained after a history is what its changes make of what was retained
 pub retained-changes : (s : State) (h : List Operation) → IsLegal s h → (after s h).retained ≡ after_changes s.case (changes s h) s.retained
 retained-changes s [] legal = refl
 retained-changes s (o ∷ h) legal =

@@ -16,6 +16,7 @@ behind-unread : (o : Option Path) (partials : PartialChildren) → AreUnread par
 behind-unread None partials h = front-unread partials h
 behind-unread (Some y) partials h = h
 
+-- names that are only listed are unread
 pub unread-unread : (ns : List Name) → AreUnread (unread ns)
 unread-unread [] = tt
 unread-unread (n ∷ ns) = (refl, unread-unread ns)
@@ -48,6 +49,7 @@ mutual
       ∙ ap (λ t. t ++ contents (partial_of_look l)) (sym (append-nil (contents s)) ∙ ap (λ t. contents s ++ t) (sym none))))
 
 mutual
+  -- a read leaves nothing read behind the first location left
   pub front-after_look : (l : Look) (s : PartialSnapshot) (y : Path) → IsFront s → next_left s ≡ Some y → IsFront (after_look l s)
   front-after_look l Unread y h e = front-partial_of_look l
   front-after_look l NotThere y h e = tt
@@ -65,5 +67,6 @@ mutual
       let behind : AreUnread more = rw o at h.1 in
       rw o (front-after_look l s x h.0 o, behind-unread (next_left (after_look l s)) more behind))
 
+-- a read adds the bytes that its look saw, and leaves nothing read behind the first location left
 pub after_read-adds : (l : Look) (s : PartialSnapshot) (y : Path) → IsFront s → next_left s ≡ Some y → (contents (after_look l s) ≡ contents s ++ contents (partial_of_look l)) × IsFront (after_look l s)
 after_read-adds l s y h e = (contents-after_look l s y h e, front-after_look l s y h e)

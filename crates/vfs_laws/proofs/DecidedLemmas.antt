@@ -20,7 +20,7 @@ abbrev found_in : Option Name → Option Look → Option Look
 found_in None l = None
 found_in (Some m) l = l
 
--- what was seen at the names x below a sketch
+-- what was seen at the names x below the scan's path
 abbrev found : Case → PartialSnapshot → Path → Option Look
 found case s [] = own_look s
 found case s (n ∷ x) = found_in (partial_child_name case (partial_children s) n) (found case (partial_at_name case s n) x)
@@ -69,17 +69,17 @@ mutual
       or_else-none _ _ none ∙ reading-same case m n (readings s) x e ∙ readings-found case s x h.0 ∙ rw e refl)
       (λ e. ap (λ o. or_else o (reading_at case (readings_in more) (n ∷ x))) (reading-other case m n (readings s) x e) ∙ readings_in-found case more n x order.1 h.1 ∙ rw e refl)
 
-status-own_partial : (t : PartialSnapshot) → decided_status t ≡ option_map status_seen (own_look t)
-status-own_partial Unread = refl
-status-own_partial NotThere = refl
-status-own_partial (FileRead bytes) = refl
-status-own_partial (DirRead partials) = refl
+own_look-status : (t : PartialSnapshot) → decided_status t ≡ option_map status_seen (own_look t)
+own_look-status Unread = refl
+own_look-status NotThere = refl
+own_look-status (FileRead bytes) = refl
+own_look-status (DirRead partials) = refl
 
 here-of : (case : Case) (s : PartialSnapshot) (p : Path) (t : PartialSnapshot) → ((q : Path) → reading_at case (readings s) (p ++ q) ≡ found case t q) → own_look t ≡ reading_at case (readings s) p
 here-of case s p t there = sym (ap (reading_at case (readings s)) (sym (append-nil p)) ∙ there [])
 
 decided_status-at : (case : Case) (s : PartialSnapshot) (p : Path) (t : PartialSnapshot) (x : Path) → ((q : Path) → reading_at case (readings s) (p ++ q) ≡ found case t q) → decided_status (partial_at case t x) ≡ decided_status_by case (readings s) p x
-decided_status-at case s p t [] there = status-own_partial t ∙ ap (option_map status_seen) (here-of case s p t there)
+decided_status-at case s p t [] there = own_look-status t ∙ ap (option_map status_seen) (here-of case s p t there)
 decided_status-at case s p Unread (n ∷ x) there = ap decided_status (partial_at-unread case x) ∙ ap (λ o. decided_status_in case o n (decided_status_by case (readings s) (p ++ n ∷ []) x)) (here-of case s p Unread there)
 decided_status-at case s p NotThere (n ∷ x) there = ap decided_status (partial_at-not_there case x) ∙ ap (λ o. decided_status_in case o n (decided_status_by case (readings s) (p ++ n ∷ []) x)) (here-of case s p NotThere there)
 decided_status-at case s p (FileRead bytes) (n ∷ x) there = ap decided_status (partial_at-not_there case x) ∙ ap (λ o. decided_status_in case o n (decided_status_by case (readings s) (p ++ n ∷ []) x)) (here-of case s p (FileRead bytes) there)
@@ -95,6 +95,6 @@ decided_status-at case s p (DirRead partials) (n ∷ x) there =
     ∙ ap (λ m. decided_status_below m (decided_status_by case (readings s) (p ++ n ∷ []) x)) (sym (sym (partial_child_name-is case partials n) ∙ o))
     ∙ ap (λ l. decided_status_in case l n (decided_status_by case (readings s) (p ++ n ∷ []) x)) (here-of case s p (DirRead partials) there))
 
--- a sketch decides what the list of its readings decides
-pub decided_status-listed_name : (case : Case) (s : PartialSnapshot) (x : Path) → IsPartialTree case s → decided_status (partial_at case s x) ≡ decided_status_by case (readings s) [] x
-decided_status-listed_name case s x h = decided_status-at case s [] s x (λ q. readings-found case s q (ordered case s h))
+-- a scan decides what the list of its readings decides
+pub decided-by_readings : (case : Case) (s : PartialSnapshot) (x : Path) → IsPartialTree case s → decided_status (partial_at case s x) ≡ decided_status_by case (readings s) [] x
+decided-by_readings case s x h = decided_status-at case s [] s x (λ q. readings-found case s q (ordered case s h))

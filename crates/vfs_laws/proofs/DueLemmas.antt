@@ -18,6 +18,7 @@ due-for : (s : State) (o : Option Scan) → IsLookFor s o (look_due s o)
 due-for s None = tt
 due-for s (Some t) = due-at s t (next_left t.partial)
 
+-- the answers of a tree that tells its world are due
 pub told-due : (s : State) (call : Call) → AreDue s call (answers s call)
 told-due s (CallEdit edit) = refl
 told-due s (CallRead c) = due-for s (scan_of s c)
@@ -48,6 +49,7 @@ looks-for : (s : State) (o : Option Scan) (l : Option Look) → IsWorld s.case s
 looks-for s None l h due = tt
 looks-for s (Some t) l h due = looks-at s t (next_left t.partial) l h due
 
+-- a look that is due over a world lists names as a look does
 pub due-looks : (s : State) (call : Call) (a : Answers) → IsWorld s.case s.world → AreDue s call a → AreLooks s call a
 due-looks s (CallRead c) a h due = looks-for s (scan_of s c) a.look h due
 due-looks s _ a h due = tt

@@ -34,6 +34,7 @@ apart p x y off on =
     (λ s. absurd (both_ways (is_at_or_above p x) off (subst (λ (z : Path). is_at_or_above p z ≡ true) (same_place-true y x s) on)))
     (λ s. s)
 
+-- the place of two paths joined is their places joined
 pub place-append : (case : Case) (p q : Path) → place case (p ++ q) ≡ place case p ++ place case q
 place-append case [] q = refl
 place-append case (n ∷ p) q = ap (λ r. folded_name case n ∷ r) (place-append case p q)
@@ -42,16 +43,16 @@ place-append case (n ∷ p) q = ap (λ r. folded_name case n ∷ r) (place-appen
 Stays : Case → Path → (Entry → Entry) → Entry → Type 0
 Stays case x f e = (f e ≡ e) ⊎ ((is_same_place (place case e.path) x ≡ false) × (is_same_place (place case (f e).path) x ≡ false))
 
-entry_after_write-no_change : (case : Case) (p x : Path) (bytes : List ℕ) → is_at_or_above (place case p) x ≡ false → (e : Entry) → Stays case x (entry_after_write case p bytes) e
+entry_after_write-stays : (case : Case) (p x : Path) (bytes : List ℕ) → is_at_or_above (place case p) x ≡ false → (e : Entry) → Stays case x (entry_after_write case p bytes) e
 unfolding Stays
-entry_after_write-no_change case p x bytes off e =
+entry_after_write-stays case p x bytes off e =
     split (is_same_place (place case e.path) (place case p))
     (λ s. let below = apart (place case p) x (place case e.path) off (and_parts _ _ s).1 in inr (below, rw s below))
     (λ s. inl (rw s refl))
 
-entry_after_move-no_change : (case : Case) (p q x : Path) → is_at_or_above (place case p) x ≡ false → is_at_or_above (place case q) x ≡ false → (e : Entry) → Stays case x (entry_after_move case p q) e
+entry_after_move-stays : (case : Case) (p q x : Path) → is_at_or_above (place case p) x ≡ false → is_at_or_above (place case q) x ≡ false → (e : Entry) → Stays case x (entry_after_move case p q) e
 unfolding Stays
-entry_after_move-no_change case p q x off_p off_q e =
+entry_after_move-stays case p q x off_p off_q e =
     split (is_at_or_above (place case p) (place case e.path))
     (λ s. inr (
       apart (place case p) x (place case e.path) off_p s,
@@ -59,16 +60,17 @@ entry_after_move-no_change case p q x off_p off_q e =
     ))
     (λ s. inl (rw s refl))
 
+-- where no event of an edit is at or above a place, the same entry is there afterwards
 pub apply-elsewhere : (case : Case) (world : World) (edit : Edit) (x : Path) → is_told case (events edit) x ≡ false → at case (apply case world edit) x ≡ at case world x
 unfolding Stays
 apply-elsewhere case world (Write p bytes) x off =
     let off_p = (or_parts _ _ off).0 in
     split (is_missing (status_there case world p))
     (λ s. rw s (find-append _ world _ (apart (place case p) x (place case p) off_p (at_or_above-refl (place case p)))))
-    (λ s. rw s (find-map _ _ (entry_after_write-no_change case p x bytes off_p) world))
+    (λ s. rw s (find-map _ _ (entry_after_write-stays case p x bytes off_p) world))
 apply-elsewhere case world (Mkdir p) x off = find-append _ world _ (apart (place case p) x (place case p) (or_parts _ _ off).0 (at_or_above-refl (place case p)))
 apply-elsewhere case world (Remove p) x off =
     find-filter _ _ (λ e s. apart (place case p) x (place case e.path) (or_parts _ _ off).0 (not-false _ s)) world
 apply-elsewhere case world (Move p q) x off =
     let h = or_parts _ _ off in
-    find-map _ _ (entry_after_move-no_change case p q x h.0 (or_parts _ _ h.1).0) world
+    find-map _ _ (entry_after_move-stays case p q x h.0 (or_parts _ _ h.1).0) world

@@ -9,8 +9,8 @@ use Rattle.vfs_model.specs.Edit.{is_root, Edit, Write, Mkdir, Remove, Move, refu
 use Rattle.vfs_laws.proofs.Splits.{split, split_or}
 use Rattle.vfs_laws.proofs.PathLemmas.{at_or_above-refl, same_place-refl, same_name-refl, same_name-true, same_place-true, rest_of}
 use Rattle.vfs_laws.proofs.EditLemmas.{apply-elsewhere}
-use Rattle.vfs_laws.proofs.WorldLemmas.{IsFree, find-append_off, find-map_off, entry_after_write-off, parent_place, removed-at, entry_after_move-gone, entry_after_move-at, last_step, each-fails, missing-none, present, accepted-root, accepted-distinct, accepted-after_close, accepted-short}
-use Rattle.vfs_laws.proofs.NameLemmas.{same_place-last, split_order, order-equal, order-flip, names-in_order, listed_name-names, listed_name-head, listed_first, listed_name-insert, insert-in_order, none-after, child_place, is_child-append}
+use Rattle.vfs_laws.proofs.WorldLemmas.{IsFree, find-append_off, find-map_off, entry_after_write-off, parent_place, removed-at, entry_after_move-gone, entry_after_move-at, last_step, each-fails, missing-none, present, accepted-root, accepted-distinct, accepted-closed, accepted-short}
+use Rattle.vfs_laws.proofs.NameLemmas.{spelling-none, same_place-last, split_order, order-equal, order-flip, names-in_order, listed_in-names, listed_in-head, listed_first, listed_in-insert, insert-in_order, none-after, child_place, is_child-append}
 
 some≢none : {X : Type 0} (x : X) → Some x ≡ None → ⊥
 some≢none x e = cc
@@ -18,10 +18,10 @@ some≢none x e = cc
 -- a list in order that lists no more names is no longer
 fewer : (case : Case) (xs ys : List Name) → AreInOrder case xs → AreInOrder case ys → ((k n : Name) → listed_in case xs k ≡ Some n → listed_in case ys k ≢ None) → length xs ≤ length ys
 fewer case [] ys h g e = omega arith
-fewer case (x ∷ xs) [] h g e = absurd (e (folded_name case x) x (listed_name-head case x xs) refl)
+fewer case (x ∷ xs) [] h g e = absurd (e (folded_name case x) x (listed_in-head case x xs) refl)
 fewer case (x ∷ xs) (y ∷ ys) h g e =
     split_order (name_order case x y)
-    (λ o. absurd (e (folded_name case x) x (listed_name-head case x xs) (listed_first case x y ys o g)))
+    (λ o. absurd (e (folded_name case x) x (listed_in-head case x xs) (listed_first case x y ys o g)))
     (λ o.
     let f = order-equal case x y o in
     let rest : (k n : Name) → listed_in case xs k ≡ Some n → listed_in case ys k ≢ None =
@@ -54,7 +54,7 @@ length-insert_new case n [] h = omega arith
 length-insert_new case n (m ∷ ns) h =
     split_order (name_order case n m)
     (λ o. rw o (omega arith))
-    (λ o. absurd (some≢none m (sym (listed_name-head case m ns) ∙ ap (listed_in case (m ∷ ns)) (sym (order-equal case n m o)) ∙ h)))
+    (λ o. absurd (some≢none m (sym (listed_in-head case m ns) ∙ ap (listed_in case (m ∷ ns)) (sym (order-equal case n m o)) ∙ h)))
     (λ o. rw o (
     let h' : listed_in case ns (folded_name case n) ≡ None =
     split (is_same_name (folded_name case m) (folded_name case n)) (λ s. absurd (some≢none m (rw s at h))) (λ s. rw s at h) in
@@ -63,15 +63,11 @@ length-insert_new case n (m ∷ ns) h =
 none-spelling : (e : Option Entry) → e ≡ None → spelling_of e ≡ None
 none-spelling e h = ap spelling_of h
 
-spelling-none : (e : Option Entry) → spelling_of e ≡ None → e ≡ None
-spelling-none None h = refl
-spelling-none (Some e) h = cc
-
 -- where the children of one place are there only if those of another are, it has no more names
 fewer-names : (case : Case) (v w : World) (x y : Path) → ((k : Name) → at case w (y ++ k ∷ []) ≡ None → at case v (x ++ k ∷ []) ≡ None) → length (names case v x) ≤ length (names case w y)
 fewer-names case v w x y h =
     fewer case (names case v x) (names case w y) (names-in_order case v x) (names-in_order case w y)
-    (λ k n l z. some≢none n (sym l ∙ listed_name-names case v x k ∙ none-spelling _ (h k (spelling-none _ (sym (listed_name-names case w y k) ∙ z)))))
+    (λ k n l z. some≢none n (sym l ∙ listed_in-names case v x k ∙ none-spelling _ (h k (spelling-none _ (sym (listed_in-names case w y k) ∙ z)))))
 
 -- and with one name more
 one_more : (case : Case) (v w : World) (x : Path) (n : Name) → ((k : Name) → is_same_name (folded_name case n) k ≡ false → at case w (x ++ k ∷ []) ≡ None → at case v (x ++ k ∷ []) ≡ None) → length (names case v x) ≤ length (names case w x) + 1
@@ -79,12 +75,12 @@ one_more case v w x n h =
     let ns = insert_name case n (names case w x) in
     let less = fewer case (names case v x) ns (names-in_order case v x) (insert-in_order case n _ (names-in_order case w x))
     (λ k m l z.
-    let z' : cond (is_same_name (folded_name case n) k) (Some n) (listed_in case (names case w x) k) ≡ None = sym (listed_name-insert case n (names case w x) k) ∙ z in
+    let z' : cond (is_same_name (folded_name case n) k) (Some n) (listed_in case (names case w x) k) ≡ None = sym (listed_in-insert case n (names case w x) k) ∙ z in
     split (is_same_name (folded_name case n) k)
     (λ s. some≢none n (rw s at z'))
     (λ s.
     let z'' : listed_in case (names case w x) k ≡ None = rw s at z' in
-    some≢none m (sym l ∙ listed_name-names case v x k ∙ none-spelling _ (h k s (spelling-none _ (sym (listed_name-names case w x k) ∙ z'')))))) in
+    some≢none m (sym l ∙ listed_in-names case v x k ∙ none-spelling _ (h k s (spelling-none _ (sym (listed_in-names case w x k) ∙ z'')))))) in
     let longer = length-insert case n (names case w x) in
     omega arith
 
@@ -128,17 +124,17 @@ removed-less case world p x on there =
     let n = last_name p in
     let P_is = child_place case x p on in
     let gone : listed_in case (names case v x) (folded_name case n) ≡ None =
-    listed_name-names case v x (folded_name case n) ∙ none-spelling _ (ap (at case v) (sym P_is) ∙ removed-at case world p (place case p) (at_or_above-refl (place case p))) in
+    listed_in-names case v x (folded_name case n) ∙ none-spelling _ (ap (at case v) (sym P_is) ∙ removed-at case world p (place case p) (at_or_above-refl (place case p))) in
     let longer = length-insert_new case n (names case v x) gone in
     let less = fewer case (insert_name case n (names case v x)) (names case world x) (insert-in_order case n _ (names-in_order case v x)) (names-in_order case world x)
     (λ k m l z.
-    let none : at case world (x ++ k ∷ []) ≡ None = spelling-none _ (sym (listed_name-names case world x k) ∙ z) in
+    let none : at case world (x ++ k ∷ []) ≡ None = spelling-none _ (sym (listed_in-names case world x k) ∙ z) in
     split (is_same_name (folded_name case n) k)
     (λ s. there (ap (at case world) (P_is ∙ ap (λ u. x ++ u ∷ []) (same_name-true (folded_name case n) k s)) ∙ none))
     (λ s.
-    let l' : cond (is_same_name (folded_name case n) k) (Some n) (listed_in case (names case v x) k) ≡ Some m = sym (listed_name-insert case n (names case v x) k) ∙ l in
+    let l' : cond (is_same_name (folded_name case n) k) (Some n) (listed_in case (names case v x) k) ≡ Some m = sym (listed_in-insert case n (names case v x) k) ∙ l in
     let l'' : listed_in case (names case v x) k ≡ Some m = rw s at l' in
-    some≢none m (sym l'' ∙ listed_name-names case v x k ∙ none-spelling _
+    some≢none m (sym l'' ∙ listed_in-names case v x k ∙ none-spelling _
     (split (is_at_or_above (place case p) (x ++ k ∷ []))
     (λ t. removed-at case world p (x ++ k ∷ []) t)
     (λ t. apply-elsewhere case world (Remove p) (x ++ k ∷ []) (or_from _ _ t refl) ∙ none))))) in
@@ -207,6 +203,7 @@ entry_after_write-few case world p bytes there few x =
     let old = few x in
     omega arith
 
+-- an edit that is not refused leaves at most 4,096 names in each directory
 pub accepted-few : (case : Case) (world : World) (edit : Edit) → refusal case world edit ≡ None → IsClosed case world → AreFew case world → AreFew case (apply case world edit)
 unfolding IsFree
 accepted-few case world (Write p bytes) e closed few =
@@ -228,11 +225,12 @@ accepted-few case world (Move p q) e closed few =
     (split_or (and_cases _ _ t.1.1.1.1.1.1.1.0) (λ a. inl a) (λ b. inr (same_place-true (place case (parent q)) (place case (parent p)) (not-false _ b))))
     (or_parts (is_root p) (is_root q) t.0).0 few
 
+-- an edit that is not refused, and whose paths are short, leaves a world
 pub accepted-world : (case : Case) (world : World) (edit : Edit) → refusal case world edit ≡ None → Each (λ (p : Path). length p ≤ 64) (events edit) → IsWorld case world → IsWorld case (apply case world edit)
 accepted-world case world edit e few h = record {
   root = ap status_of (apply-elsewhere case world edit [] (accepted-root case world edit e)) ∙ h.root;
   distinct = accepted-distinct case world edit e h.closed h.distinct;
-  closed = accepted-after_close case world edit e h.closed;
+  closed = accepted-closed case world edit e h.closed;
   short = accepted-short case world edit e few h.short;
   few = accepted-few case world edit e h.closed h.few;
 }

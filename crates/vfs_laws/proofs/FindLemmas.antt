@@ -2,6 +2,7 @@
 use Rattle.std.proofs.Common.{◌≡◌, ◌⊎◌, true, false, cond, not, List, [], ◌∷◌, ◌++◌, length, drop, filter, refl, sym, ap, ◌∙◌, subst, Some, None, append_assoc, append-nil, inl, inr}
 use Rattle.std.proofs.lemmas.Bool.{both_ways, or_right, or_parts, or_from, and_from, false_from_ne_true, not_from_false, or_cases}
 use Rattle.std.specs.List.{AllByRecursion as Each}
+use Rattle.std.proofs.Math.Seq.{drop-append_seam}
 use Rattle.vfs_model.specs.declared.Case.{Case}
 use Rattle.vfs_model.specs.Paths.{Path, is_at_or_above, is_related}
 use Rattle.vfs_model.specs.Snapshot.{Snapshot, sub, IsTree}
@@ -10,7 +11,7 @@ use Rattle.vfs_laws.proofs.Splits.{split, split_or}
 use Rattle.vfs_laws.proofs.PathLemmas.{at_or_above-append, at_or_above-trans, above_both}
 use Rattle.vfs_laws.proofs.OrderLemmas.{precedes-unrelated}
 use Rattle.vfs_laws.proofs.NameLemmas.{each-weaker, some-is}
-use Rattle.vfs_laws.proofs.RetainedLemmas.{IsPiece, pieces-are, each-append, sub-append, rest-is, drop-append}
+use Rattle.vfs_laws.proofs.RetainedLemmas.{IsPiece, pieces-are, each-append, sub-append, rest-is}
 
 -- a part that is found is that of some pair of the list, of which all holds that holds of each
 pub record IsFrom (case : Case) (P : Pair → Type 0) (x : Path) (f : Snapshot) : Type 0 where
@@ -19,6 +20,7 @@ pub record IsFrom (case : Case) (P : Pair → Type 0) (x : Path) (f : Snapshot) 
   pub above : is_at_or_above pair.path x ≡ true
   pub part : sub case pair.snapshot (drop (length pair.path) x) ≡ f
 
+-- a part that is found is that of a pair of the list, at or above the place
 pub part-from : (case : Case) (P : Pair → Type 0) (rs : List Pair) (x : Path) (f : Snapshot) → Each P rs → part_of case rs x ≡ Some f → IsFrom case P x f
 part-from case P [] x f h e = absurd (none f e)
   where
@@ -36,7 +38,7 @@ part_of-append case (r ∷ rs) qs x f e =
     (λ s. inl (rw s (rw s at e)))
     (λ s. split_or (part_of-append case rs qs x f (rw s at e)) (λ h. inl (rw s h)) (λ h. inr h))
 
--- what stays of a pair is part of it, and has nothing to do with e
+-- what an invalidation leaves of a pair is part of it, and has nothing to do with e
 pub pairs_left-are : (case : Case) (e : Path) (r : Pair) → IsTree case r.snapshot → Each (IsPiece case r.path r.snapshot e) (pairs_left case e r)
 pairs_left-are case e r tree =
     split (is_at_or_above e r.path)
@@ -71,7 +73,7 @@ after_invalidation-before case e (r ∷ rs) x f trees apart found =
     let x_is : r.path ++ (y ++ z) ≡ x = sym (append_assoc r.path y z) ∙ ap (λ p. p ++ z) (sym from.holds.path_is) ∙ rest-is from.pair.path x from.above in
     let is : sub case r.snapshot (y ++ z) ≡ f = sub-append case r.snapshot y z ∙ ap (λ s. sub case s z) (sym from.holds.snapshot_is) ∙ from.part in
     subst (λ p. part_of case (r ∷ rs) p ≡ Some f) x_is
-    (rw (at_or_above-append r.path (y ++ z), drop-append r.path (y ++ z), is) refl))
+    (rw (at_or_above-append r.path (y ++ z), drop-append_seam r.path (y ++ z), is) refl))
     (λ h.
     let old = after_invalidation-before case e rs x f trees.1 apart.1 h in
     let from = part-from case (λ q. is_related r.path q.path ≡ false) rs x f (each-weaker _ _ (λ q h. precedes-unrelated r.path q.path h) rs apart.0) old in
@@ -118,6 +120,7 @@ after_store-at case p s retained x free on =
         strictly : (r : Pair) → is_at_or_above r.path x ≡ true → is_at_or_above p r.path ≡ false → is_at_or_above r.path p ≡ true
         strictly r u t = split_or (or_cases _ _ (above_both p r.path x on u)) (λ a. absurd (both_ways _ t a)) (λ b. b)
 
+-- elsewhere than at and below its place, a store leaves what is found
 pub after_store-elsewhere : (case : Case) (p : Path) (s : Snapshot) (retained : Retained) (x : Path) → is_at_or_above p x ≡ false → part_of case (after_store p s retained).pairs x ≡ part_of case retained.pairs x
 after_store-elsewhere case p s retained x off =
     split (is_covered retained.pairs p)

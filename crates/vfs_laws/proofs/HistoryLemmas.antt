@@ -16,7 +16,7 @@ use Rattle.vfs_laws.proofs.Splits.{split_or, split_option}
 use Rattle.vfs_laws.proofs.NameLemmas.{each-weaker}
 use Rattle.vfs_laws.proofs.ScanningLemmas.{below_or-none}
 use Rattle.vfs_laws.proofs.LimitLemmas.{step-limits}
-use Rattle.vfs_laws.proofs.SoundLemmas.{settled-scanned_input, after_event-sound, after_loss-sound, after_edit-sound, after_delivery-sound, after_clear-sound, after_close-sound, after_begin-sound, after_read-sound, after_publish-sound, after_fingerprint-sound}
+use Rattle.vfs_laws.proofs.SoundLemmas.{settled-scanned, after_event-sound, after_loss-sound, after_edit-sound, after_delivery-sound, after_clear-sound, after_close-sound, after_begin-sound, after_read-sound, after_publish-sound, after_fingerprint-sound}
 
 edit_or-sound : (s : State) (edit : Edit) (r : Option Refusal) → refusal s.case s.world edit ≡ r → Each (λ (p : Path). length p ≤ 64) (events edit) → IsTrue s → IsTrue (edit_by s edit (edit_answer_or edit r)).state
 edit_or-sound s edit (Some r) e few h = h
@@ -83,6 +83,7 @@ step-true a s (CallKind x) few due h = h
 step-true a s (CallVersion x) few due h = h
 step-true a s (CallFingerprint inputs) few due h = fingerprint_or-sound s inputs (find (λ (k : KeptPrint). is_for_inputs inputs k.seen) s.kept) h
 
+-- a step with answers that are due keeps a state sound
 pub step-sound : (a : Answers) (s : State) (call : Call) → IsCall call → AreDue s call a → IsSound s → IsSound (step a s call).state
 step-sound a s call few due h = record { limits = step-limits a s call few h.limits; known = step-true a s call few due h.known }
 
@@ -90,12 +91,13 @@ step-sound a s call few due h = record { limits = step-limits a s call few h.lim
 
 -- an operation that had memory had its step
 pub stepped : (s : State) (o : Operation) → is_no_memory o.reply ≡ false → IsLegalOperation s o → IsStep s o
-stepped s o g legal = split_or legal.reply (λ h. absurd (both_ways _ g (count_left _ _ h))) (λ h. h)
+stepped s o g legal = split_or legal.reply (λ h. absurd (both_ways _ g (first_true _ _ h))) (λ h. h)
   where
-    count_left : (a b : Bool) → (a && b) ≡ true → a ≡ true
-    count_left true b h = refl
-    count_left false b h = absurd (true≢false (sym h))
+    first_true : (a b : Bool) → (a && b) ≡ true → a ≡ true
+    first_true true b h = refl
+    first_true false b h = absurd (true≢false (sym h))
 
+-- a legal operation keeps a state sound
 pub after_operation-sound : (s : State) (o : Operation) → IsLegalOperation s o → IsSound s → IsSound (after_operation s o)
 after_operation-sound s o legal h = by (is_no_memory o.reply) refl
   where
@@ -103,10 +105,12 @@ after_operation-sound s o legal h = by (is_no_memory o.reply) refl
     by true g = h
     by false g = step-sound o.answers s o.call legal.call (stepped s o g legal).due h
 
+-- a legal history keeps a state sound
 pub after-sound : (s : State) (h : List Operation) → IsLegal s h → IsSound s → IsSound (after s h)
 after-sound s [] legal sound = sound
 after-sound s (o ∷ h) legal sound = after-sound (after_operation s o) h legal.1 (after_operation-sound s o legal.0 sound)
 
+-- an opening state is sound
 pub opening-sound : (s : State) → IsOpening s → IsSound s
 opening-sound s h = record {
   limits = h.limits;
@@ -120,9 +124,9 @@ opening-sound s h = record {
   };
 }
 
--- whatever calls come from the opening on, and whatever was lost on the way: where nothing waits, all that is known is what a scan gives
+-- after each legal history from an opening, where nothing waits, all that is known is what a scan gives
 pub settled-after : (s : State) (h : List Operation) → IsOpening s → IsLegal s h → IsSettled (after s h) → IsScanned (after s h)
-settled-after s h opening legal settled = settled-scanned_input (after s h) settled (after-sound s h legal (opening-sound s opening)).known
+settled-after s h opening legal settled = settled-scanned (after s h) settled (after-sound s h legal (opening-sound s opening)).known
 
 -- something is left exactly where there is a first location left
 mutual
@@ -150,6 +154,7 @@ mutual
   count_left_in-some NoChildren y e = cc
   count_left_in-some (PartialChild n s more) y e = split_option (next_left s) (λ o. let b = count_left_in-some more y (rw o at e) in omega arith) (λ x o. let a = count_left-some s x o in omega arith)
 
+-- nothing is left exactly where none is counted
 pub unfinished : (s : PartialSnapshot) → (next_left s ≡ None) ↔ (count_left s ≡ 0)
 unfinished s = (count_left-none s, λ e. split_option (next_left s) (λ o. o) (λ y o. absurd (omega (arith, count_left-some s y o))))
 
@@ -163,6 +168,7 @@ no_child : (x : Path) → is_child x [] ≡ false
 no_child [] = refl
 no_child (a ∷ x) = refl
 
+-- the tree that has only its root is a world
 pub empty-is_world : (case : Case) → IsWorld case empty_world
 empty-is_world case = record {
   root = refl;
@@ -172,15 +178,18 @@ empty-is_world case = record {
   few = λ x. rw (no_child x) (omega arith);
 }
 
+-- the opening over a world, with a capacity of 1 to 65,536, is an opening state
 pub opening-is_opening : (case : Case) (capacity : ℕ) (world : World) → 1 ≤ capacity → capacity ≤ 65536 → IsWorld case world → IsOpening (opening case capacity world)
 opening-is_opening case capacity world some_room room h = record { world = h; limits = record { scans = omega arith; kept = omega arith; inputs = tt; some_room = some_room; room = room; events = omega arith }; settled = record { events = refl; mark = refl }; past = refl; retained = refl; scans = (refl, (refl, (refl, (refl, (refl, (refl, (refl, (refl, (refl, (refl, (refl, (refl, (refl, (refl, (refl, (refl, tt)))))))))))))))); kept = refl }
 
 -- ---- a history with one entry more
 
+-- the state after one operation more
 pub after-push : (s : State) (h : List Operation) (o : Operation) → after s (h ++ o ∷ []) ≡ after_operation (after s h) o
 after-push s [] o = refl
 after-push s (p ∷ h) o = after-push (after_operation s p) h o
 
+-- a legal history with a legal operation more is legal
 pub legal-push : (s : State) (h : List Operation) (o : Operation) → IsLegal s h → IsLegalOperation (after s h) o → IsLegal s (h ++ o ∷ [])
 legal-push s [] o legal more = (more, tt)
 legal-push s (p ∷ h) o legal more = (legal.0, legal-push (after_operation s p) h o legal.1 more)

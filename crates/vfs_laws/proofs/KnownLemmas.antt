@@ -1,7 +1,8 @@
--- Known directories stay known above an invalidation, and a store makes those above it known.
+-- A store makes the directories above it known, and those above an invalidation stay known.
 use Rattle.std.proofs.Common.{◌≡◌, ◌≢◌, true, false, Bool, ◌||◌, not, List, [], ◌∷◌, ◌++◌, length, map, drop, filter, refl, sym, ap, ◌∙◌, subst, Option, Some, None, append_assoc, append-nil}
 use Rattle.std.proofs.lemmas.Bool.{both_ways, true≢false, or_left, or_right, or_parts, and_from, false_from_ne_true, not_from_false, or_cases}
 use Rattle.std.specs.List.{AllByRecursion as Each}
+use Rattle.std.proofs.Math.Seq.{drop-append_seam}
 use Rattle.vfs_model.specs.declared.Case.{Case}
 use Rattle.vfs_model.specs.declared.Kind.TheVariants.{Dir as DirKind}
 use Rattle.vfs_model.specs.Paths.{Name, Path, is_at_or_above, is_same_place}
@@ -139,16 +140,12 @@ dirs-stay case d n r (q ∷ pairs) dirs h =
     let d_is : q.path ++ z ≡ d = rest-is q.path d on in
     let e_is : q.path ++ (z ++ n ∷ r) ≡ d ++ n ∷ r = sym (append_assoc q.path z (n ∷ r)) ∙ ap (λ y. y ++ n ∷ r) d_is in
     let above : is_at_or_above q.path (d ++ n ∷ r) ≡ true = ap (is_at_or_above q.path) (sym e_is) ∙ at_or_above-append q.path (z ++ n ∷ r) in
-    let rest : drop (length q.path) (d ++ n ∷ r) ≡ z ++ n ∷ r = ap (drop (length q.path)) (sym e_is) ∙ drop-append q.path (z ++ n ∷ r) in
+    let rest : drop (length q.path) (d ++ n ∷ r) ≡ z ++ n ∷ r = ap (drop (length q.path)) (sym e_is) ∙ drop-append_seam q.path (z ++ n ∷ r) in
     let found : kind_of_status (status (sub case q.snapshot z)) ≡ DirKind = kind-from (part_of case (q ∷ pairs) d) (is_known dirs d) (sub case q.snapshot z) (rw on refl) h in
     let here : is_known (dirs_left case (d ++ n ∷ r) q) d ≡ true =
     rw (above, rest) (subst (λ y. is_known (dirs_from case q.path q.snapshot (z ++ n ∷ r)) y ≡ true) d_is (from-known case q.path q.snapshot z n r found)) in
     insert_dirs-new (dirs_left case (d ++ n ∷ r) q) d (all_dirs_left case (d ++ n ∷ r) pairs dirs) here)
     (λ off. insert_dirs-old (dirs_left case (d ++ n ∷ r) q) d (all_dirs_left case (d ++ n ∷ r) pairs dirs) (dirs-stay case d n r pairs dirs (rw off at h)))
-  where
-    drop-append : (p z : Path) → drop (length p) (p ++ z) ≡ z
-    drop-append [] z = refl
-    drop-append (m ∷ p) z = drop-append p z
 
 -- what is known to be a directory strictly above the path is so after its invalidation
 pub after_invalidation-known : (case : Case) (d : Path) (n : Name) (r : Path) (retained : Retained) → Each (λ (q : Pair). IsTree case q.snapshot) retained.pairs → kind_of case retained d ≡ Some DirKind → kind_of case (after_invalidation case (d ++ n ∷ r) retained) d ≡ Some DirKind

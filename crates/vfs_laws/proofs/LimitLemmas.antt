@@ -14,7 +14,7 @@ use Rattle.vfs_model.specs.declared.Case.{Case}
 use Rattle.vfs_model.specs.Snapshot.{Snapshot}
 use Rattle.std.specs.List.{AllByRecursion as Each}
 use Rattle.vfs_laws.proofs.NameLemmas.{each-weaker}
-use Rattle.vfs_laws.proofs.RetainedLemmas.{each-filter, each-append}
+use Rattle.vfs_laws.proofs.RetainedLemmas.{each-filter, each-append, each-drop}
 use Rattle.vfs_laws.proofs.Splits.{split}
 
 length-filter_le : {X : Type 0} (t : X → Bool) (xs : List X) → length (filter t xs) ≤ length xs
@@ -26,12 +26,12 @@ length-slice_set [] i x = refl
 length-slice_set (y ∷ xs) zero x = omega arith
 length-slice_set (y ∷ xs) (suc i) x = omega (arith, length-slice_set xs i x)
 
-record IsFilled (capacity : ℕ) (p : Pending) : Type 0 where
+record IsWithin (capacity : ℕ) (p : Pending) : Type 0 where
   same : p.capacity ≡ capacity
   events : length p.events ≤ capacity
 
-put-after_looks : (c : ℕ) (e : Path) (p : Pending) → IsFilled c p → IsFilled c (put e p)
-put-after_looks c e p h =
+put-within : (c : ℕ) (e : Path) (p : Pending) → IsWithin c p → IsWithin c (put e p)
+put-within c e p h =
     split (has_room p)
     (λ t. rw t (record { same = h.same; events = omega (arith, length-append p.events (e ∷ []), room p t, h.same) }))
     (λ t. rw t (record { same = h.same; events = omega arith }))
@@ -39,15 +39,15 @@ put-after_looks c e p h =
     room : (p : Pending) → has_room p ≡ true → length p.events + 1 ≤ p.capacity
     room p t = let few = ltb-true (length p.events) p.capacity t in omega (arith, few)
 
-put_all-after_looks : (c : ℕ) (es : List Path) (p : Pending) → IsFilled c p → IsFilled c (put_all es p)
-put_all-after_looks c [] p h = h
-put_all-after_looks c (e ∷ es) p h = put_all-after_looks c es (put e p) (put-after_looks c e p h)
+put_all-within : (c : ℕ) (es : List Path) (p : Pending) → IsWithin c p → IsWithin c (put_all es p)
+put_all-within c [] p h = h
+put_all-within c (e ∷ es) p h = put_all-within c es (put e p) (put-within c e p h)
 
-after_looks : (s : State) → IsInLimits s → IsFilled s.pending.capacity s.pending
-after_looks s h = record { same = refl; events = h.events }
+queue-within : (s : State) → IsInLimits s → IsWithin s.pending.capacity s.pending
+queue-within s h = record { same = refl; events = h.events }
 
 -- the new pending has the same capacity, and as many events at most
-with_pending : (s new : State) → new.scans ≡ s.scans → length new.kept ≤ length s.kept → Each (λ (k : KeptPrint). IsInputCount (length k.seen)) new.kept → IsFilled s.pending.capacity new.pending → IsInLimits s → IsInLimits new
+with_pending : (s new : State) → new.scans ≡ s.scans → length new.kept ≤ length s.kept → Each (λ (k : KeptPrint). IsInputCount (length k.seen)) new.kept → IsWithin s.pending.capacity new.pending → IsInLimits s → IsInLimits new
 with_pending s new scans kept counts f h = record {
   scans = subst (λ l. length l ≡ 16) (sym scans) h.scans;
   kept = omega (arith, kept, h.kept);
@@ -59,7 +59,7 @@ with_pending s new scans kept counts f h = record {
 
 edit-limits : (s : State) (edit : Edit) (a : EditAnswer) → IsInLimits s → IsInLimits (edit_by s edit a).state
 edit-limits s edit (Refuses r) h = h
-edit-limits s edit (Does told) h = with_pending s (after_edit s edit told) refl (omega arith) h.inputs (put_all-after_looks _ told s.pending (after_looks s h)) h
+edit-limits s edit (Does told) h = with_pending s (after_edit s edit told) refl (omega arith) h.inputs (put_all-within _ told s.pending (queue-within s h)) h
 
 deliver_first-limits : (s : State) (es : List Path) → s.pending.events ≡ es → IsInLimits s → IsInLimits (deliver_first s es).state
 deliver_first-limits s [] is h = h
@@ -122,11 +122,7 @@ seen_inputs-count case pairs (i ∷ more) =
     let h = seen_or-count i (part_of case pairs (place case i.root)) (seen_inputs case pairs more) (length more) (seen_inputs-count case pairs more) in
     omega (arith, h)
 
-each-drop : {X : Type 0} (P : X → Type 0) (n : ℕ) (xs : List X) → Each P xs → Each P (drop n xs)
-each-drop P zero xs h = h
-each-drop P (suc n) [] h = tt
-each-drop P (suc n) (x ∷ xs) h = each-drop P n xs h.1
-
+-- what holds of each kept fingerprint and of the new one holds of those kept then
 pub each-with_kept : (P : KeptPrint → Type 0) (ks : List KeptPrint) (k : KeptPrint) → Each P ks → P k → Each P (with_kept ks k)
 each-with_kept P ks k h one = each-append P (if nat_le 64 (length ks) then drop 1 ks else ks) _ (split (nat_le 64 (length ks)) (λ e. rw e (each-drop P 1 ks h)) (λ e. rw e h)) (one, tt)
 
@@ -151,9 +147,10 @@ fingerprint-limits s inputs None few h = by (nat_lt (length seen) (length inputs
           events = h.events;
         }
 
+-- a step keeps a state within its limits
 pub step-limits : (a : Answers) (s : State) (call : Call) → IsCall call → IsInLimits s → IsInLimits (step a s call).state
 step-limits a s (CallEdit edit) few h = edit-limits s edit a.edit h
-step-limits a s (CallEvent e) few h = with_pending s (after_event s e) refl (omega arith) h.inputs (put-after_looks _ e s.pending (after_looks s h)) h
+step-limits a s (CallEvent e) few h = with_pending s (after_event s e) refl (omega arith) h.inputs (put-within _ e s.pending (queue-within s h)) h
 step-limits a s CallLose few h = with_pending s (after_loss s) refl (omega arith) h.inputs (record { same = refl; events = omega arith }) h
 step-limits a s CallDeliver few h = deliver-limits s s.pending.mark h
 step-limits a s (CallBegin c p) few h = begin-limits s c p (scan_of s c) h

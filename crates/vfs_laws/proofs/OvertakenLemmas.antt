@@ -1,6 +1,9 @@
 -- A scan is overtaken exactly where a place related to its own was invalidated since its begin.
 use Rattle.std.proofs.Common.{◌≡◌, ◌≢◌, ◌↔◌, ℕ, suc, zero, ◌+◌, ◌<◌, ◌≤◌, Bool, true, false, ◌&&◌, ◌||◌, List, [], ◌∷◌, ◌++◌, length, drop, find, refl, sym, ap, ◌∙◌, subst, Option, Some, None, arith, length-append, slice_get, slice_set, nat_eq, nat_lt, if◌then◌else◌, eqb-true, eq-eqb, max, add-zero}
 use Rattle.std.proofs.lemmas.Bool.{both_ways, true≢false}
+use Rattle.std.proofs.lemmas.List.{append-nil, append_assoc}
+use Rattle.std.proofs.Math.Seq.{drop-append_seam}
+use Rattle.std.proofs.lemmas.List.Folds.{list_any-append}
 use Rattle.std.specs.List.{list_any}
 use Rattle.vfs_model.specs.declared.Case.{Case}
 use Rattle.vfs_model.specs.declared.Kind.{Kind}
@@ -10,7 +13,7 @@ use Rattle.vfs_model.specs.Scanning.{Scan, Look, Unread, next_left, after_look, 
 use Rattle.vfs_model.specs.Retained.{is_covered}
 use Rattle.vfs_model.specs.Pending.{version, version_from, has_room}
 use Rattle.vfs_model.specs.Fingerprint.{Input}
-use Rattle.vfs_model.specs.State.{State, Call, CallEdit, CallEvent, CallLose, CallDeliver, CallBegin, CallRead, CallPublish, CallDrop, CallFind, CallPart, CallKind, CallVersion, CallFingerprint, Reply, Done, Overflow, Fits, Cleared, Delivered, Answers, EditAnswer, Refuses, Does, Outcome, KeptPrint, step, scan_of, all_fit, edit_by, deliver_when, deliver_first, begin_or, read_or, read_next, publish_or, publish_next, publish_when, drop_or, fingerprint_or, fingerprint_when, seen_inputs, is_for_inputs, after_clear, after_delivery, after_edit, after_event, after_loss, after_begin, after_read, after_publish, after_fingerprint, open_scan, with_scan, Saw}
+use Rattle.vfs_model.specs.State.{State, Call, CallEdit, CallEvent, CallLose, CallDeliver, CallBegin, CallRead, CallPublish, CallDrop, CallFind, CallPart, CallKind, CallVersion, CallFingerprint, Reply, Done, Overflow, Fits, Cleared, Delivered, Version, Stale, Answers, EditAnswer, Refuses, Does, Outcome, KeptPrint, step, scan_of, all_fit, edit_by, deliver_when, deliver_first, begin_or, read_or, read_next, publish_or, publish_next, publish_when, drop_or, fingerprint_or, fingerprint_when, seen_inputs, is_for_inputs, after_clear, after_delivery, after_edit, after_event, after_loss, after_begin, after_read, after_publish, after_fingerprint, open_scan, with_scan, Saw}
 use Rattle.vfs_model.specs.History.{Operation, is_no_memory, after_operation, after, IsLegalOperation, IsLegal, is_invalidating, is_on, is_closed_by, is_closing, is_stale, is_invalidated_in, KeepsOpen, is_scan_overtaken, own_read, own_step, own_partial}
 use Rattle.vfs_laws.proofs.HistoryLemmas.{stepped}
 use Rattle.vfs_laws.proofs.Splits.{split}
@@ -21,12 +24,7 @@ or_false true = refl
 or_false false = refl
 
 any-append_one : {X : Type 0} (t : X → Bool) (xs : List X) (x : X) → list_any t (xs ++ x ∷ []) ≡ (list_any t xs || t x)
-any-append_one t [] x = sym (or_false (t x))
-any-append_one t (y ∷ xs) x = ap (λ b. t y || b) (any-append_one t xs x) ∙ or_assoc (t y) (list_any t xs) (t x)
-  where
-    or_assoc : (a b c : Bool) → (a || (b || c)) ≡ ((a || b) || c)
-    or_assoc true b c = refl
-    or_assoc false b c = refl
+any-append_one t xs x = list_any-append t xs (x ∷ []) ∙ ap (λ b. list_any t xs || b) (sym (or_false (t x)))
 
 get-set_other : {X : Type 0} (xs : List X) (i j : ℕ) (x : X) → (i ≢ j) → slice_get (slice_set xs i x) j ≡ slice_get xs j
 get-set_other [] i j x d = refl
@@ -40,7 +38,7 @@ open-set [] i t u e = cc
 open-set (y ∷ xs) zero t u e = refl
 open-set (y ∷ xs) (suc i) t u e = open-set xs i t u e
 
--- the scan c is still in progress, and it is overtaken where it was or where the reply says so
+-- after the outcome the scan c is still in progress, with u read; what was invalidated has grown, and the scan is overtaken where it was or where the reply says so
 record IsOngoing (s : State) (c : ℕ) (t : Scan) (u : PartialSnapshot) (o : Outcome) : Type 0 where
   scan : Scan
   is : scan_of o.state c ≡ Some scan
@@ -48,7 +46,8 @@ record IsOngoing (s : State) (c : ℕ) (t : Scan) (u : PartialSnapshot) (o : Out
   begun_at : scan.begun_at ≡ t.begun_at
   partial : scan.partial ≡ u
   case : o.state.case ≡ s.case
-  long : length s.past ≤ length o.state.past
+  grown : List Path
+  past : o.state.past ≡ s.past ++ grown
   overtaken : is_overtaken o.state.case o.state.past scan ≡ (is_overtaken s.case s.past t || is_invalidating s.case t.path o.reply)
 
 -- a call that leaves what was invalidated, and the scan
@@ -60,7 +59,8 @@ quiet-call s new c t r case_is past_is is off = record {
   begun_at = refl;
   partial = refl;
   case = case_is;
-  long = subst (λ l. length s.past ≤ length l) (sym past_is) (omega arith);
+  grown = [];
+  past = past_is ∙ sym (append-nil s.past);
   overtaken = λ i. (or_false (is_overtaken (case_is i) (past_is i) t) ∙ ap (λ b. is_overtaken (case_is i) (past_is i) t || b) (sym off)) i;
 }
 
@@ -73,7 +73,8 @@ pushed s new c t r e case_is past_is is few says = record {
   begun_at = refl;
   partial = refl;
   case = case_is;
-  long = subst (λ l. length s.past ≤ length l) (sym past_is) (omega (arith, length-append s.past (e ∷ [])));
+  grown = e ∷ [];
+  past = past_is;
   overtaken =
       (λ i. is_overtaken (case_is i) (past_is i) t)
       ∙ ap (list_any test) (drop-push t.begun_at s.past e few)
@@ -101,7 +102,8 @@ after_read-call s c d t u l x k n is is_u =
       begun_at = ap (λ (v : Scan). v.begun_at) (sym (some-scan t u t_is));
       partial = rw e (ap (λ (v : Scan). after_look l v.partial) (sym (some-scan t u t_is)));
       case = refl;
-      long = omega arith;
+      grown = [];
+      past = sym (append-nil s.past);
       overtaken = ap (λ (v : Scan). is_overtaken s.case s.past v) (sym (some-scan t u t_is)) ∙ or_false _ ∙ ap (λ b. is_overtaken s.case s.past t || b) refl;
     })
     (λ e. rw e (slot-call s c d t (Some (record { path = u.path; begun_at = u.begun_at; partial = after_look l u.partial })) (Saw x k n) is (λ same. both_ways (nat_eq d c) e (eq-eqb d c same)) refl))
@@ -242,24 +244,32 @@ operation-ongoing s o c t legal keeps is few = by (is_no_memory o.reply) refl
         subst (λ r. IsOngoing s c t (own_read c o.call r o.answers.look t.partial) (record { reply = r; state = (step o.answers s o.call).state })) (sym same)
         (ongoing o.answers s o.call c t (subst (λ r. (is_on c o.call && is_closed_by r) ≡ false) same keeps) is few)
 
--- the scan after the history, and what its being overtaken says
+-- the scan after the history, what was invalidated in it, and what its being overtaken says
 record IsSince (s : State) (c : ℕ) (t : Scan) (h : List Operation) : Type 0 where
   scan : Scan
   is : scan_of (after s h) c ≡ Some scan
   path : scan.path ≡ t.path
+  begun_at : scan.begun_at ≡ t.begun_at
   partial : scan.partial ≡ own_partial c h t.partial
+  case : (after s h).case ≡ s.case
+  grown : List Path
+  past : (after s h).past ≡ s.past ++ grown
   overtaken : is_overtaken (after s h).case (after s h).past scan ≡ (is_overtaken s.case s.past t || is_invalidated_in s.case t.path h)
 
 since : (s : State) (c : ℕ) (t : Scan) (h : List Operation) → IsLegal s h → KeepsOpen c h → scan_of s c ≡ Some t → t.begun_at ≤ length s.past → IsSince s c t h
-since s c t [] legal keeps is few = record { scan = t; is = is; path = refl; partial = refl; overtaken = or_false _ }
+since s c t [] legal keeps is few = record { scan = t; is = is; path = refl; begun_at = refl; partial = refl; case = refl; grown = []; past = sym (append-nil s.past); overtaken = or_false _ }
 since s c t (e ∷ h) legal keeps is few =
     let o = operation-ongoing s e c t legal.0 keeps.0 is few in
-    let r = since (after_operation s e) c o.scan h legal.1 keeps.1 o.is (omega (arith, few, o.long, o.begun_at)) in
+    let r = since (after_operation s e) c o.scan h legal.1 keeps.1 o.is (omega (arith, few, ap length o.past ∙ length-append s.past o.grown, o.begun_at)) in
     record {
       scan = r.scan;
       is = r.is;
       path = r.path ∙ o.path;
+      begun_at = r.begun_at ∙ o.begun_at;
       partial = r.partial ∙ ap (own_partial c h) o.partial;
+      case = r.case ∙ o.case;
+      grown = o.grown ++ r.grown;
+      past = r.past ∙ ap (λ l. l ++ r.grown) o.past ∙ append_assoc s.past o.grown r.grown;
       overtaken =
           r.overtaken
           ∙ (λ i. o.overtaken i || is_invalidated_in (o.case i) (o.path i) h)
@@ -321,9 +331,9 @@ version-later past since x =
     )
 
 -- what a scan in progress has read is a function of its own entries
-pub own_partial-entries : (s : State) (c : ℕ) (p : Path) (h : List Operation) → c < length s.scans → IsLegal (after_begin s c p) h → KeepsOpen c h
+pub partial-own : (s : State) (c : ℕ) (p : Path) (h : List Operation) → c < length s.scans → IsLegal (after_begin s c p) h → KeepsOpen c h
     → (t : Scan) × (scan_of (after (after_begin s c p) h) c ≡ Some t) × (t.path ≡ p) × (t.partial ≡ own_partial c h Unread)
-own_partial-entries s c p h few legal keeps =
+partial-own s c p h few legal keeps =
     let t : Scan = record { path = p; begun_at = length s.past; partial = Unread } in
     let r = since (after_begin s c p) c t h legal keeps (ap open_scan (set-in s.scans c (Some t) few)) (omega arith) in
     (r.scan, r.is, r.path, r.partial)
@@ -335,13 +345,13 @@ stale-when s c t true v = refl
 stale-when s c t false true = refl
 stale-when s c t false false = refl
 
-stale-next_left : (s : State) (c : ℕ) (t : Scan) (y : Option Path) → y ≡ None → is_stale (publish_next s c t y).reply ≡ is_overtaken s.case s.past t
-stale-next_left s c t None e = stale-when s c t (is_overtaken s.case s.past t) (is_covered s.retained.pairs (place s.case t.path))
-stale-next_left s c t (Some y) e = cc
+stale-next : (s : State) (c : ℕ) (t : Scan) (y : Option Path) → y ≡ None → is_stale (publish_next s c t y).reply ≡ is_overtaken s.case s.past t
+stale-next s c t None e = stale-when s c t (is_overtaken s.case s.past t) (is_covered s.retained.pairs (place s.case t.path))
+stale-next s c t (Some y) e = cc
 
 stale-or : (s : State) (c : ℕ) (o : Option Scan) (t : Scan) → o ≡ Some t → next_left t.partial ≡ None → is_stale (publish_or s c o).reply ≡ is_scan_overtaken s o
 stale-or s c None t e none = cc
-stale-or s c (Some u) t e none = stale-next_left s c u (next_left u.partial) (ap (λ (v : Scan). next_left v.partial) (same u t e) ∙ none)
+stale-or s c (Some u) t e none = stale-next s c u (next_left u.partial) (ap (λ (v : Scan). next_left v.partial) (same u t e) ∙ none)
   where
     same : (u t : Scan) → Some u ≡ Some t → u ≡ t
     same u t e = cc
@@ -351,3 +361,39 @@ pub stale-told : (a : Answers) (s : State) (c : ℕ) (p : Path) (h : List Operat
     → scan_of (after (after_begin s c p) h) c ≡ Some t → next_left t.partial ≡ None → is_stale (step a (after (after_begin s c p) h) (CallPublish c)).reply ≡ is_invalidated_in s.case p h
 stale-told a s c p h t few legal keeps is none =
     stale-or (after (after_begin s c p) h) c (scan_of (after (after_begin s c p) h) c) t is none ∙ overtaken-since s c p h few legal keeps
+
+-- ---- the number of a stale publish
+
+-- a begin of a closed scan answers the version of its path
+pub begin-answers : (a : Answers) (s : State) (c : ℕ) (p : Path) → scan_of s c ≡ None → step a s (CallBegin c p) ≡ record { reply = Version (version s.past (place s.case p)); state = after_begin s c p }
+begin-answers a s c p none = ap (begin_or s c p) none
+
+stale-when-is : (s : State) (c : ℕ) (t : Scan) (o v : Bool) (n : ℕ) → (publish_when s c t o v).reply ≡ Stale n → (n ≡ version s.past (place s.case t.path)) × (o ≡ true)
+stale-when-is s c t true v n e = (cc, refl)
+stale-when-is s c t false true n e = cc
+stale-when-is s c t false false n e = cc
+
+stale-next-is : (s : State) (c : ℕ) (t : Scan) (y : Option Path) (n : ℕ) → (publish_next s c t y).reply ≡ Stale n → (n ≡ version s.past (place s.case t.path)) × (is_overtaken s.case s.past t ≡ true)
+stale-next-is s c t (Some y) n e = cc
+stale-next-is s c t None n e = stale-when-is s c t _ _ n e
+
+stale-is : (s : State) (c : ℕ) (o : Option Scan) (t : Scan) (n : ℕ) → o ≡ Some t → (publish_or s c o).reply ≡ Stale n → (n ≡ version s.past (place s.case t.path)) × (is_overtaken s.case s.past t ≡ true)
+stale-is s c None t n is e = cc
+stale-is s c (Some u) t n is e = subst (λ (v : Scan). (n ≡ version s.past (place s.case v.path)) × (is_overtaken s.case s.past v ≡ true)) (same u t is) (stale-next-is s c u (next_left u.partial) n e)
+  where
+    same : (u t : Scan) → Some u ≡ Some t → u ≡ t
+    same u t e = cc
+
+-- a stale publish answers the version of the scan's path, and that is greater than it was at the scan's begin
+pub stale-grown : (a : Answers) (s : State) (c : ℕ) (p : Path) (h : List Operation) (n : ℕ) → c < length s.scans → IsLegal (after_begin s c p) h → KeepsOpen c h
+    → (step a (after (after_begin s c p) h) (CallPublish c)).reply ≡ Stale n → (n ≡ version (after (after_begin s c p) h).past (place s.case p)) × (version s.past (place s.case p) < n)
+stale-grown a s c p h n few legal keeps stale =
+    let t : Scan = record { path = p; begun_at = length s.past; partial = Unread } in
+    let r = since (after_begin s c p) c t h legal keeps (ap open_scan (set-in s.scans c (Some t) few)) (omega arith) in
+    let e = stale-is (after (after_begin s c p) h) c (scan_of (after (after_begin s c p) h) c) r.scan n r.is stale in
+    let number : n ≡ version (after (after_begin s c p) h).past (place s.case p) = e.0 ∙ (λ i. version (after (after_begin s c p) h).past (place (r.case i) (r.path i))) in
+    let related : list_any (λ d. is_related d (place s.case p)) r.grown ≡ true =
+    ap (list_any (λ d. is_related d (place s.case p))) (sym (drop-append_seam s.past r.grown))
+    ∙ sym (λ i. list_any (λ d. is_related d (place (r.case i) (r.path i))) (drop (r.begun_at i) (r.past i)))
+    ∙ e.1 in
+    (number, subst (λ m. version s.past (place s.case p) < m) (sym (number ∙ ap (λ past. version past (place s.case p)) r.past)) ((version-later s.past r.grown (place s.case p)).1 related))

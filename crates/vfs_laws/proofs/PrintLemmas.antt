@@ -14,11 +14,12 @@ use Rattle.vfs_laws.proofs.PathLemmas.{same_place-true, at_or_above-append, at_o
 use Rattle.vfs_laws.proofs.EditLemmas.{place-append}
 use Rattle.std.proofs.lemmas.Bool.{true≢false, or_cases, or_left, or_right}
 use Rattle.std.specs.List.{list_any}
-use Rattle.vfs_laws.proofs.NameLemmas.{names-in_order, listed_name-names, same-in_order, some-is}
+use Rattle.vfs_laws.proofs.NameLemmas.{names-in_order, listed_in-names, same-in_order, some-is}
 use Rattle.vfs_laws.proofs.WorldLemmas.{entry_after_move-at, length-place, accepted-free}
 
 -- ---- the same below, the same scan
 
+-- a snapshot does not tell how an entry is spelled
 pub snapshot-node : (a b : Option Entry) (m : Children) → node_of a ≡ node_of b → snapshot_of a m ≡ snapshot_of b m
 snapshot-node None None m h = refl
 snapshot-node None (Some b) m h = cc
@@ -29,10 +30,11 @@ listing-same : (f g : Name → Snapshot) → ((n : Name) → f n ≡ g n) → (n
 listing-same f g h [] = refl
 listing-same f g h (n ∷ ns) = λ i. Child n (h n i) (listing-same f g h ns i)
 
+-- where the same is below two places, they have the same names
 pub same-names : (case : Case) (v : World) (p : Path) (w : World) (q : Path) → IsSameBelow case v p w q → names case v p ≡ names case w q
 same-names case v p w q h =
     same-in_order case (names case v p) (names case w q) (names-in_order case v p) (names-in_order case w q)
-    (λ k. listed_name-names case v p k ∙ h.names [] k ∙ sym (listed_name-names case w q k))
+    (λ k. listed_in-names case v p k ∙ h.names [] k ∙ sym (listed_in-names case w q k))
 
 same-below : (case : Case) (v : World) (p : Path) (w : World) (q : Path) (k : Name) → IsSameBelow case v p w q → IsSameBelow case v (p ++ k ∷ []) w (q ++ k ∷ [])
 same-below case v p w q k h = record {
@@ -58,6 +60,7 @@ same-scan_down case (suc levels) v p w q h =
     (ap (listing (λ n. scan_down case v levels (p ++ folded_name case n ∷ []))) (same-names case v p w q h)
     ∙ listing-same _ _ (λ n. same-scan_down case levels v (p ++ folded_name case n ∷ []) w (q ++ folded_name case n ∷ []) (same-below case v p w q (folded_name case n) h)) (names case w q))
 
+-- where the same is at and below two places, their scans are the same
 pub same-scan : (case : Case) (v : World) (p : Path) (w : World) (q : Path) → IsSameBelow case v p w q → scan case v p ≡ scan case w q
 unfolding scan
 same-scan case v p w q h = same-scan_down case 64 v p w q h
@@ -118,6 +121,7 @@ last-dropped q (suc k) [] h = absurd (omega arith)
 last-dropped q (suc k) (m ∷ []) h = absurd (omega arith)
 last-dropped q (suc k) (m ∷ o ∷ r) h = last-dropped q k (o ∷ r) (omega arith)
 
+-- what is found at a place has that place
 pub found-place : (case : Case) (world : World) (y : Path) (e : Entry) → at case world y ≡ Some e → place case e.path ≡ y
 found-place case [] y e h = cc
 found-place case (f ∷ world) y e h =
@@ -125,10 +129,12 @@ found-place case (f ∷ world) y e h =
     (λ s. let t : Some f ≡ Some e = rw s at h in ap (λ (g : Entry). place case g.path) (sym (some-is f e t)) ∙ same_place-true (place case f.path) y s)
     (λ s. found-place case world y e (rw s at h))
 
+-- a move leaves what stands there
 pub entry_after_move-node : (case : Case) (p q : Path) (o : Option Entry) → node_of (option_map (entry_after_move case p q) o) ≡ node_of o
 entry_after_move-node case p q None = refl
 entry_after_move-node case p q (Some e) = split (is_at_or_above (place case p) (place case e.path)) (λ s. rw s refl) (λ s. rw s refl)
 
+-- a move leaves the last name of what is below its end
 pub entry_after_move-name : (case : Case) (world : World) (p q x : Path) (n : Name) (o : Option Entry) → at case world (place case p ++ (x ++ n ∷ [])) ≡ o → spelling_of (option_map (entry_after_move case p q) o) ≡ spelling_of o
 entry_after_move-name case world p q x n None is = refl
 entry_after_move-name case world p q x n (Some e) is =

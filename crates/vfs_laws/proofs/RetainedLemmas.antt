@@ -1,27 +1,29 @@
 -- What an invalidation and a store leave.
-use Rattle.std.proofs.Common.{◌≡◌, Bool, true, false, not, List, [], ◌∷◌, ◌++◌, length, drop, filter, refl, sym, ap, ◌∙◌, subst, Some, append_assoc, append-nil}
+use Rattle.std.proofs.Common.{◌≡◌, ℕ, zero, suc, Bool, true, false, not, List, [], ◌∷◌, ◌++◌, length, drop, filter, refl, sym, ap, ◌∙◌, subst, Some, append_assoc, append-nil}
 use Rattle.std.proofs.lemmas.Bool.{both_ways, or_from, false_from_ne_true, not-true}
 use Rattle.std.specs.List.{AllByRecursion as Each}
-use Rattle.std.specs.declared.cmp.Ordering.{Ordering}
-use Rattle.std.specs.declared.cmp.Ordering.TheVariants.{Less, Equal, Greater}
+use Rattle.std.proofs.Math.Seq.{drop-append_seam}
 use Rattle.vfs_model.specs.declared.Case.{Case}
 use Rattle.vfs_model.specs.Paths.{Name, Path, folded_name, is_same_name, is_at_or_above, is_related}
 use Rattle.vfs_model.specs.World.{World, at, AreInOrder, IsDir, status_of, spelling_of}
 use Rattle.vfs_model.specs.Snapshot.{Snapshot, Missing, File, Dir, Children, Nothing, Child, child, children_of, listed_name, sub, told_name, status, names_of, IsTree, IsListing}
 use Rattle.vfs_model.specs.Scan.{Agrees}
-use Rattle.vfs_model.specs.Retained.{Pair, place_order, precedes, insert_pair, insert_dir_by, insert_dir, insert_dirs, pieces_beside, pieces, dirs_from, pairs_left, dirs_left, all_pairs_left, all_dirs_left}
+use Rattle.vfs_model.specs.Retained.{Pair, precedes, insert_pair, insert_dirs, pieces_beside, pieces, dirs_from, pairs_left, dirs_left, all_pairs_left, all_dirs_left}
 use Rattle.vfs_model.specs.Sound.{IsCurrent, IsStillDir}
 use Rattle.vfs_laws.proofs.Splits.{split}
 use Rattle.vfs_laws.proofs.PathLemmas.{same_name-refl, same_name-true, at_or_above-append, rest_of, above_both}
 use Rattle.vfs_laws.proofs.NameLemmas.{each-weaker}
+use Rattle.vfs_laws.proofs.OrderLemmas.{each-insert_dir}
 use Rattle.vfs_laws.proofs.ScanLemmas.{children-head, children-tail}
 
 -- ---- each of a list
 
+-- what holds of each of two lists holds of each of both
 pub each-append : {X : Type 0} (P : X → Type 0) (xs ys : List X) → Each P xs → Each P ys → Each P (xs ++ ys)
 each-append P [] ys h k = k
 each-append P (x ∷ xs) ys h k = (h.0, each-append P xs ys h.1 k)
 
+-- what holds of each holds of each that a filter leaves, and the test too
 pub each-filter : {X : Type 0} (P : X → Type 0) (t : X → Bool) (xs : List X) → Each P xs → Each (λ x. P x × (t x ≡ true)) (filter t xs)
 each-filter P t [] h = tt
 each-filter P t (x ∷ xs) h =
@@ -29,6 +31,13 @@ each-filter P t (x ∷ xs) h =
     (λ e. rw e ((h.0, e), each-filter P t xs h.1))
     (λ e. rw e (each-filter P t xs h.1))
 
+-- what holds of each holds of each that is not dropped
+pub each-drop : {X : Type 0} (P : X → Type 0) (n : ℕ) (xs : List X) → Each P xs → Each P (drop n xs)
+each-drop P zero xs h = h
+each-drop P (suc n) [] h = tt
+each-drop P (suc n) (x ∷ xs) h = each-drop P n xs h.1
+
+-- what holds of a pair and of each of the list holds of each once it is inserted
 pub each-insert_pair : (P : Pair → Type 0) (r : Pair) (rs : List Pair) → P r → Each P rs → Each P (insert_pair r rs)
 each-insert_pair P r [] h k = (h, tt)
 each-insert_pair P r (q ∷ rest) h k =
@@ -36,21 +45,14 @@ each-insert_pair P r (q ∷ rest) h k =
     (λ e. rw e (h, k))
     (λ e. rw e (k.0, each-insert_pair P r rest h k.1))
 
-each-insert_dir_by : (P : Path → Type 0) (o : Ordering) (d q : Path) (rest more : List Path) → P d → Each P (q ∷ rest) → Each P more → Each P (insert_dir_by o d q rest more)
-each-insert_dir_by P Less d q rest more h k m = (h, k)
-each-insert_dir_by P Equal d q rest more h k m = (h, k.1)
-each-insert_dir_by P Greater d q rest more h k m = (k.0, m)
-
-pub each-insert_dir : (P : Path → Type 0) (d : Path) (ds : List Path) → P d → Each P ds → Each P (insert_dir d ds)
-each-insert_dir P d [] h k = (h, tt)
-each-insert_dir P d (q ∷ rest) h k = each-insert_dir_by P (place_order d q) d q rest _ h k (each-insert_dir P d rest h k.1)
-
+-- what holds of places and of each of the list holds of each once they are inserted
 pub each-insert_dirs : (P : Path → Type 0) (new ds : List Path) → Each P new → Each P ds → Each P (insert_dirs new ds)
 each-insert_dirs P [] ds h k = k
 each-insert_dirs P (d ∷ new) ds h k = each-insert_dir P d _ h.0 (each-insert_dirs P new ds h.1 k)
 
 -- ---- parts of snapshots
 
+-- what a snapshot says of names and more names, it says by its part at the names
 pub sub-append : (case : Case) (s : Snapshot) (x y : Path) → sub case s (x ++ y) ≡ sub case (sub case s x) y
 sub-append case s [] y = refl
 sub-append case s (n ∷ x) y = sub-append case (child case (children_of s) n) x y
@@ -61,6 +63,7 @@ told_name-append case s (m ∷ []) [] n e = cc
 told_name-append case s (m ∷ []) (k ∷ y) n e = e
 told_name-append case s (m ∷ o ∷ x) y n e = told_name-append case (child case (children_of s) m) (o ∷ x) y n e
 
+-- a part of a tree is a tree
 pub tree-sub : (case : Case) (s : Snapshot) (x : Path) → IsTree case s → IsTree case (sub case s x)
 tree-sub case s x tree y = subst (λ t. IsListing case (children_of t)) (sub-append case s x y) (tree (x ++ y))
 
@@ -96,6 +99,7 @@ unrelated_names [] x y k n e =
     rw (e, f) refl
 unrelated_names (a ∷ p) x y k n e = rw (same_name-refl a) (unrelated_names p x y k n e)
 
+-- each piece is a part of the snapshot that is not related to the place
 pub pieces-are : (case : Case) (p : Path) (s : Snapshot) (x : Path) → IsTree case s → Each (IsPiece case p s (p ++ x)) (pieces case p s x)
 pieces-are case p s [] tree = tt
 pieces-are case p s (n ∷ x) tree =
@@ -130,14 +134,11 @@ pieces-current case world before after e r q delivered current piece x miss =
     let found = agrees-sub case world r.path r.snapshot piece.names x (current (piece.names ++ x) miss') in
     subst (λ (t : Path × Snapshot). Agrees case world t.0 t.1 x) (λ i. (sym piece.path_is i, sym piece.snapshot_is i)) found
 
-pub drop-append : (p x : Path) → drop (length p) (p ++ x) ≡ x
-drop-append [] x = refl
-drop-append (n ∷ p) x = drop-append p x
-
+-- what lies at or below a place is the place and the rest of the names
 pub rest-is : (p e : Path) → is_at_or_above p e ≡ true → p ++ drop (length p) e ≡ e
 rest-is p e h =
     let (rest, same) = rest_of p e h in
-    ap (λ z. p ++ drop (length p) z) same ∙ ap (λ z. p ++ z) (drop-append p rest) ∙ sym same
+    ap (λ z. p ++ drop (length p) z) same ∙ ap (λ z. p ++ z) (drop-append_seam p rest) ∙ sym same
 
 pairs_left-current : (case : Case) (world : World) (before after : Path → Bool) (e : Path) → IsDelivered case e before after
     → (r : Pair) → IsTree case r.snapshot → IsCurrent case before world r → Each (IsCurrent case after world) (pairs_left case e r)
@@ -151,6 +152,7 @@ pairs_left-current case world before after e delivered r tree current =
     (pieces-are case r.path r.snapshot (drop (length r.path) e) tree))))
     (λ t. rw (s, t) (λ x miss. current x (delivered.misses (r.path ++ x) (quiet e r.path x (or_from _ _ s t)) miss), tt)))
 
+-- an invalidation leaves pairs that agree with the world, where the event waits no more
 pub all_pairs_left-current : (case : Case) (world : World) (before after : Path → Bool) (e : Path) → IsDelivered case e before after
     → (rs : List Pair) → Each (λ (r : Pair). IsTree case r.snapshot) rs → Each (IsCurrent case before world) rs → Each (IsCurrent case after world) (all_pairs_left case e rs)
 all_pairs_left-current case world before after e delivered [] trees current = tt
@@ -171,6 +173,7 @@ pub record IsDirOf (case : Case) (p : Path) (s : Snapshot) (e : Path) (d : Path)
   pub dir : status (sub case s names) ≡ IsDir
   pub above : is_at_or_above e d ≡ false
 
+-- each of these places is a directory by the snapshot, strictly above the place
 pub dirs-are : (case : Case) (p : Path) (s : Snapshot) (x : Path) → Each (IsDirOf case p s (p ++ x)) (dirs_from case p s x)
 dirs-are case p s [] = tt
 dirs-are case p Missing (n ∷ x) = tt
@@ -203,6 +206,7 @@ dirs_left-still case world before after e delivered r current =
         let found = current h.names (ap before (sym h.path_is) ∙ delivered.misses d h.above miss) in
         ap (λ z. status_of (at case world z)) h.path_is ∙ sym found.same_kind ∙ h.dir
 
+-- an invalidation leaves known directories that are directories, where the event waits no more
 pub all_dirs_left-still : (case : Case) (world : World) (before after : Path → Bool) (e : Path) → IsDelivered case e before after
     → (rs : List Pair) (ds : List Path) → Each (IsCurrent case before world) rs → Each (IsStillDir case before world) ds → Each (IsStillDir case after world) (all_dirs_left case e rs ds)
 all_dirs_left-still case world before after e delivered [] ds current still =
@@ -213,6 +217,7 @@ all_dirs_left-still case world before after e delivered (r ∷ rs) ds current st
 
 -- ---- snapshots stay trees
 
+-- an invalidation leaves trees
 pub all_pairs_left-trees : (case : Case) (e : Path) (rs : List Pair) → Each (λ (r : Pair). IsTree case r.snapshot) rs → Each (λ (r : Pair). IsTree case r.snapshot) (all_pairs_left case e rs)
 all_pairs_left-trees case e [] trees = tt
 all_pairs_left-trees case e (r ∷ rs) trees =

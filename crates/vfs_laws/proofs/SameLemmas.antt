@@ -34,6 +34,7 @@ look-node None (Some b) ns h = cc
 look-node (Some a) None ns h = cc
 look-node (Some a) (Some b) ns h = ap (λ n. look_of (Some (record { path = b.path; node = n })) ns) (some-is a.node b.node h)
 
+-- in two lists that are one world a look sees the same
 pub same-look : (case : Case) (v w : World) (x : Path) → IsSame case v w → look case v x ≡ look case w x
 same-look case v w x h =
     look-node (at case v x) (at case w x) (names case v x) (h.nodes x)
@@ -102,6 +103,7 @@ same-deep case v w from to h =
     (λ t. t ∙ sym (deep-both case v w from to h t))
     (λ f. f ∙ sym (false_from_ne_true _ (λ u. both_ways _ f (deep-both case w v from to (same-sym case v w h) u))))
 
+-- in two lists that are one world an edit is refused alike
 pub same-refusal : (case : Case) (v w : World) (edit : Edit) → IsSame case v w → refusal case v edit ≡ refusal case w edit
 same-refusal case v w (Write p bytes) h =
     λ i. first_refusal
@@ -293,6 +295,7 @@ entry_after_move-alike case v w p q closed_v closed_w e h y =
     (λ on. alike _ _ (entry_after_move-gone case v p q y on off ∙ sym (entry_after_move-gone case w p q y on off)))
     (λ out. elsewhere case v w (Move p q) y h (or_from _ _ out (or_from _ _ off refl))))
 
+-- two lists that are one world are one after an edit that is not refused
 pub same-apply : (case : Case) (v w : World) (edit : Edit) → IsClosed case v → IsClosed case w → refusal case v edit ≡ None → IsSame case v w → IsSame case (apply case v edit) (apply case w edit)
 same-apply case v w (Write p bytes) closed_v closed_w e h = same-of case _ _ (written case v w p bytes h)
 same-apply case v w (Mkdir p) closed_v closed_w e h =

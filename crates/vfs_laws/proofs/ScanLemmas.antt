@@ -7,8 +7,9 @@ use Rattle.vfs_model.specs.Snapshot.{Snapshot, Missing, File, Dir, Children, Not
 use Rattle.vfs_model.specs.Scan.{listing, snapshot_of, snapshot_of_node, scan_down, scan, Agrees}
 use Rattle.vfs_laws.proofs.Splits.{split, split_option}
 use Rattle.vfs_laws.proofs.PathLemmas.{same_name-refl, same_name-true, same_place-true}
-use Rattle.vfs_laws.proofs.NameLemmas.{names-in_order, listed_name-names, same-in_order, none-after, some-is}
+use Rattle.vfs_laws.proofs.NameLemmas.{names-in_order, listed_in-names, same-in_order, none-after, some-is}
 
+-- a snapshot's spelling of a name is that in the list of its names
 pub listed_name-is : (case : Case) (cs : Children) (k : Name) → listed_name case cs k ≡ listed_in case (names_of cs) k
 listed_name-is case Nothing k = refl
 listed_name-is case (Child n s cs) k = split (is_same_name (folded_name case n) k) (λ t. rw t refl) (λ t. rw t (listed_name-is case cs k))
@@ -35,6 +36,7 @@ pub children-head : (case : Case) (Q : Name → Name → Snapshot → Type 0) (n
 children-head case Q n s cs each =
     rw (same_name-refl (folded_name case n)) at (each (folded_name case n) n (rw (same_name-refl (folded_name case n)) refl))
 
+-- what is so of each name and child of a list in order is so of those behind the first
 pub children-tail : (case : Case) (Q : Name → Name → Snapshot → Type 0) (n : Name) (s : Snapshot) (cs : Children) → AreInOrder case (names_of (Child n s cs))
     → ((k m : Name) → listed_name case (Child n s cs) k ≡ Some m → Q k m (child case (Child n s cs) k)) → (k m : Name) → listed_name case cs k ≡ Some m → Q k m (child case cs k)
 children-tail case Q n s cs h each k m e =
@@ -79,7 +81,7 @@ missing-is (Some e) h = by e.node h
 same_names : (case : Case) (world : World) (p : Path) (cs : Children) → IsTree case (Dir cs) → ((x : Path) → Agrees case world p (Dir cs) x) → names_of cs ≡ names case world p
 same_names case world p cs tree agrees =
     same-in_order case (names_of cs) (names case world p) (tree []).order (names-in_order case world p)
-    (λ k. sym (listed_name-is case cs k) ∙ each k ∙ sym (listed_name-names case world p k))
+    (λ k. sym (listed_name-is case cs k) ∙ each k ∙ sym (listed_in-names case world p k))
   where
     each : (k : Name) → listed_name case cs k ≡ spelling_of (at case world (p ++ k ∷ []))
     each k =
@@ -128,6 +130,7 @@ no_children case world p (Child n s cs) short deep agrees =
     let t : None ≡ Some n = ap spelling_of (sym none) ∙ told in
     cc
 
+-- a snapshot that agrees at each place below is the scan of so many levels
 pub agrees-is_scan : (case : Case) (world : World) (levels : ℕ) (p : Path) (s : Snapshot) → AreShort world → 64 ≤ length p + levels → IsTree case s → ((x : Path) → Agrees case world p s x) → s ≡ scan_down case world levels p
 unfolding scan_down
 agrees-is_scan case world zero p s short deep tree agrees =
@@ -145,6 +148,7 @@ agrees-is_scan case world (suc levels) p s short deep tree agrees =
     ∙ ap (λ m. scan_down case world levels (p ++ m ∷ [])) (sym (listed_folds case cs k n l)))
     ∙ ap (listing of) (same_names case world p cs tree' agrees'))
 
+-- a snapshot that agrees at each place at or below its own is the scan
 pub agreeing-scan : (case : Case) (world : World) (p : Path) (s : Snapshot) → AreShort world → IsTree case s → ((x : Path) → Agrees case world p s x) → s ≡ scan case world p
 unfolding scan
 agreeing-scan case world p s short tree agrees = agrees-is_scan case world 64 p s short (omega arith) tree agrees

@@ -10,9 +10,10 @@ use Rattle.vfs_model.specs.Scanning.{Look, SeesNothing, SeesFile, SeesDir, names
 use Rattle.vfs_model.specs.Scan.{Agrees}
 use Rattle.vfs_laws.proofs.Splits.{split, split_or, split_option}
 use Rattle.vfs_laws.proofs.PathLemmas.{same_name-refl, same_name-true, rest_of}
-use Rattle.vfs_laws.proofs.NameLemmas.{names-in_order, listed_name-names, listed_name-head, none-after, some-is}
+use Rattle.vfs_laws.proofs.NameLemmas.{spelling-none, names-in_order, listed_in-names, listed_in-head, none-after, some-is}
 use Rattle.vfs_laws.proofs.ScanLemmas.{too_deep}
 
+-- a scan's spelling of a name is that in the list of the names
 pub partial_child_name-is : (case : Case) (partials : PartialChildren) (k : Name) → partial_child_name case partials k ≡ listed_in case (partial_names partials) k
 partial_child_name-is case NoChildren k = refl
 partial_child_name-is case (PartialChild n s more) k = split (is_same_name (folded_name case n) k) (λ t. rw t refl) (λ t. rw t (partial_child_name-is case more k))
@@ -60,6 +61,7 @@ first-is case l (PartialChild n s more) y h e =
     none : (m : Name) → Some m ≡ None → ⊥
     none m e = cc
 
+-- a read leaves the names of the directory
 pub partial_names-after_look : (l : Look) (partials : PartialChildren) → partial_names (after_look_in l partials) ≡ partial_names partials
 partial_names-after_look l NoChildren = refl
 partial_names-after_look l (PartialChild n s more) = split_option (next_left s) (λ o. rw o (ap (λ r. n ∷ r) (partial_names-after_look l more))) (λ x o. rw o refl)
@@ -67,14 +69,14 @@ partial_names-after_look l (PartialChild n s more) = split_option (next_left s) 
 partial_child_name-after_look : (case : Case) (l : Look) (partials : PartialChildren) (k : Name) → partial_child_name case (after_look_in l partials) k ≡ partial_child_name case partials k
 partial_child_name-after_look case l partials k = partial_child_name-is case (after_look_in l partials) k ∙ ap (λ ns. listed_in case ns k) (partial_names-after_look l partials) ∙ sym (partial_child_name-is case partials k)
 
--- ---- a sketch with the first location read
+-- ---- the first location left is read
 
--- a sketch whose first location left is not itself is a directory
-next_left-partial_at_name : (s : PartialSnapshot) (n : Name) (y : Path) → next_left s ≡ Some (n ∷ y) → (s ≡ DirRead (partial_children s)) × (next_left_in (partial_children s) ≡ Some (n ∷ y))
-next_left-partial_at_name Unread n y e = cc
-next_left-partial_at_name NotThere n y e = cc
-next_left-partial_at_name (FileRead bytes) n y e = cc
-next_left-partial_at_name (DirRead partials) n y e = (refl, e)
+-- where the first location left lies below, a directory was read
+next_left-below : (s : PartialSnapshot) (n : Name) (y : Path) → next_left s ≡ Some (n ∷ y) → (s ≡ DirRead (partial_children s)) × (next_left_in (partial_children s) ≡ Some (n ∷ y))
+next_left-below Unread n y e = cc
+next_left-below NotThere n y e = cc
+next_left-below (FileRead bytes) n y e = cc
+next_left-below (DirRead partials) n y e = (refl, e)
 
 next_left-itself : (s : PartialSnapshot) → next_left s ≡ Some [] → s ≡ Unread
 next_left-itself Unread e = refl
@@ -86,19 +88,19 @@ next_left-itself (DirRead partials) e = absurd (by partials e)
     by NoChildren e = cc
     by (PartialChild n s more) e = split_option (next_left s) (λ o. by more (rw o at e)) (λ x o. let t : Some (n ∷ x) ≡ Some [] = rw o at e in cc)
 
--- what a fill does one level down, where the first location left is below the name
-record IsFilledInside (case : Case) (l : Look) (s : PartialSnapshot) (n : Name) (y : Path) : Type 0 where
+-- what a read does one level down, where the first location left is at or below the name n
+record IsReadBelow (case : Case) (l : Look) (s : PartialSnapshot) (n : Name) (y : Path) : Type 0 where
   before : s ≡ DirRead (partial_children s)
   after : after_look l s ≡ DirRead (after_look_in l (partial_children s))
   next_is : next_left (partial_at_name case s (folded_name case n)) ≡ Some y
   filled : partial_at_name case (after_look l s) (folded_name case n) ≡ after_look l (partial_at_name case s (folded_name case n))
   others : (k : Name) → is_same_name (folded_name case n) k ≡ false → partial_at_name case (after_look l s) k ≡ partial_at_name case s k
 
-after_looks-partial_at_name : (case : Case) (l : Look) (s : PartialSnapshot) (n : Name) (y : Path) → IsPartialTree case s → next_left s ≡ Some (n ∷ y) → IsFilledInside case l s n y
-after_looks-partial_at_name case l Unread n y h e = cc
-after_looks-partial_at_name case l NotThere n y h e = cc
-after_looks-partial_at_name case l (FileRead bytes) n y h e = cc
-after_looks-partial_at_name case l (DirRead partials) n y h e =
+after_look-below_name : (case : Case) (l : Look) (s : PartialSnapshot) (n : Name) (y : Path) → IsPartialTree case s → next_left s ≡ Some (n ∷ y) → IsReadBelow case l s n y
+after_look-below_name case l Unread n y h e = cc
+after_look-below_name case l NotThere n y h e = cc
+after_look-below_name case l (FileRead bytes) n y h e = cc
+after_look-below_name case l (DirRead partials) n y h e =
     let m = first-is case l partials (n ∷ y) (h []).order e in
     let name_is : m.name ≡ n = heads m.path_is in
     let rest_is : m.rest ≡ y = tails m.path_is in
@@ -116,15 +118,15 @@ after_looks-partial_at_name case l (DirRead partials) n y h e =
     tails : {a b : Name} {x z : Path} → a ∷ x ≡ b ∷ z → z ≡ x
     tails e = cc
 
-partial-partial_at_name : (case : Case) (s : PartialSnapshot) (k : Name) → IsPartialTree case s → IsPartialTree case (partial_at_name case s k)
-partial-partial_at_name case s k h x = h (k ∷ x)
+partial_at_name-partial : (case : Case) (s : PartialSnapshot) (k : Name) → IsPartialTree case s → IsPartialTree case (partial_at_name case s k)
+partial_at_name-partial case s k h x = h (k ∷ x)
 
 -- at and below the location that was read stands what was seen
 pub after_look-below : (case : Case) (l : Look) (s : PartialSnapshot) (y x : Path) → IsPartialTree case s → next_left s ≡ Some y → partial_at case (after_look l s) (place case y ++ x) ≡ partial_at case (partial_of_look l) x
 after_look-below case l s [] x h e = ap (λ t. partial_at case (after_look l t) x) (next_left-itself s e)
 after_look-below case l s (n ∷ y) x h e =
-    let m = after_looks-partial_at_name case l s n y h e in
-    ap (λ t. partial_at case t (place case y ++ x)) m.filled ∙ after_look-below case l (partial_at_name case s (folded_name case n)) y x (partial-partial_at_name case s _ h) m.next_is
+    let m = after_look-below_name case l s n y h e in
+    ap (λ t. partial_at case t (place case y ++ x)) m.filled ∙ after_look-below case l (partial_at_name case s (folded_name case n)) y x (partial_at_name-partial case s _ h) m.next_is
 
 -- elsewhere the kind and the names are as before
 record IsAlike (s t : PartialSnapshot) : Type 0 where
@@ -137,17 +139,17 @@ alike-refl s = record { kind = refl; names = refl }
 after_look-elsewhere : (case : Case) (l : Look) (s : PartialSnapshot) (y x : Path) → IsPartialTree case s → next_left s ≡ Some y → is_at_or_above (place case y) x ≡ false → IsAlike (partial_at case (after_look l s) x) (partial_at case s x)
 after_look-elsewhere case l s [] x h e off = absurd (true≢false off)
 after_look-elsewhere case l s (n ∷ y) [] h e off =
-    let m = after_looks-partial_at_name case l s n y h e in
+    let m = after_look-below_name case l s n y h e in
     record {
       kind = ap decided_status m.after ∙ sym (ap decided_status m.before);
       names = ap (λ t. partial_names (partial_children t)) m.after ∙ partial_names-after_look l (partial_children s);
     }
 after_look-elsewhere case l s (n ∷ y) (k ∷ x) h e off =
-    let m = after_looks-partial_at_name case l s n y h e in
+    let m = after_look-below_name case l s n y h e in
     split (is_same_name (folded_name case n) k)
     (λ t.
     let same = same_name-true (folded_name case n) k t in
-    let deeper = after_look-elsewhere case l (partial_at_name case s (folded_name case n)) y x (partial-partial_at_name case s _ h) m.next_is (rw t at off) in
+    let deeper = after_look-elsewhere case l (partial_at_name case s (folded_name case n)) y x (partial_at_name-partial case s _ h) m.next_is (rw t at off) in
     subst (λ z. IsAlike (partial_at case (partial_at_name case (after_look l s) z) x) (partial_at case (partial_at_name case s z) x)) same
     (subst (λ z. IsAlike (partial_at case z x) (partial_at case (partial_at_name case s (folded_name case n)) x)) (sym m.filled) deeper))
     (λ t. subst (λ z. IsAlike (partial_at case z x) (partial_at case (partial_at_name case s k) x)) (sym (m.others k t)) (alike-refl _))
@@ -158,11 +160,11 @@ unless-some NotThere name o e = cc
 unless-some (FileRead bytes) name o e = e
 unless-some (DirRead partials) name o e = e
 
-unless-after_looks : (l : Look) (t : PartialSnapshot) (y : Path) (name : Option Name) (o : Name) → next_left t ≡ Some y → unless_missing (after_look l t) name ≡ Some o → unless_missing t name ≡ Some o
-unless-after_looks l Unread y name o h e = unless-some (partial_of_look l) name o e
-unless-after_looks l NotThere y name o h e = cc
-unless-after_looks l (FileRead bytes) y name o h e = cc
-unless-after_looks l (DirRead partials) y name o h e = e
+unless-after_look : (l : Look) (t : PartialSnapshot) (y : Path) (name : Option Name) (o : Name) → next_left t ≡ Some y → unless_missing (after_look l t) name ≡ Some o → unless_missing t name ≡ Some o
+unless-after_look l Unread y name o h e = unless-some (partial_of_look l) name o e
+unless-after_look l NotThere y name o h e = cc
+unless-after_look l (FileRead bytes) y name o h e = cc
+unless-after_look l (DirRead partials) y name o h e = e
 
 -- a spelling that is told was told before, or is below what was read
 told-after_look : (case : Case) (l : Look) (s : PartialSnapshot) (y x : Path) (o : Name) → IsPartialTree case s → next_left s ≡ Some y → told_partial_name case (after_look l s) x ≡ Some o
@@ -170,28 +172,29 @@ told-after_look : (case : Case) (l : Look) (s : PartialSnapshot) (y x : Path) (o
 told-after_look case l s y [] o h e t = cc
 told-after_look case l s [] (k ∷ x) o h e t = inr (k ∷ x, refl, subst (λ z. told_partial_name case (after_look l z) (k ∷ x) ≡ Some o) (next_left-itself s e) t)
 told-after_look case l s (n ∷ y) (k ∷ []) o h e t =
-    let m = after_looks-partial_at_name case l s n y h e in
+    let m = after_look-below_name case l s n y h e in
     let name_is : partial_child_name case (partial_children (after_look l s)) k ≡ partial_child_name case (partial_children s) k = ap (λ z. partial_child_name case (partial_children z) k) m.after ∙ partial_child_name-after_look case l (partial_children s) k in
     let told : unless_missing (partial_at_name case (after_look l s) k) (partial_child_name case (partial_children s) k) ≡ Some o = ap (unless_missing (partial_at_name case (after_look l s) k)) (sym name_is) ∙ t in
     inl (split (is_same_name (folded_name case n) k)
     (λ d.
     let same = same_name-true (folded_name case n) k d in
-    unless-after_looks l (partial_at_name case s k) y _ o (ap (λ z. next_left (partial_at_name case s z)) (sym same) ∙ m.next_is)
+    unless-after_look l (partial_at_name case s k) y _ o (ap (λ z. next_left (partial_at_name case s z)) (sym same) ∙ m.next_is)
     (subst (λ z. unless_missing z (partial_child_name case (partial_children s) k) ≡ Some o) (subst (λ z. partial_at_name case (after_look l s) z ≡ after_look l (partial_at_name case s z)) same m.filled) told))
     (λ d. subst (λ z. unless_missing z (partial_child_name case (partial_children s) k) ≡ Some o) (m.others k d) told))
 told-after_look case l s (n ∷ y) (k ∷ o' ∷ x) o h e t =
-    let m = after_looks-partial_at_name case l s n y h e in
+    let m = after_look-below_name case l s n y h e in
     split (is_same_name (folded_name case n) k)
     (λ d.
     let same = same_name-true (folded_name case n) k d in
     let told = subst (λ z. told_partial_name case z (o' ∷ x) ≡ Some o) (subst (λ z. partial_at_name case (after_look l s) z ≡ after_look l (partial_at_name case s z)) same m.filled) t in
-    split_or (told-after_look case l (partial_at_name case s k) y (o' ∷ x) o (partial-partial_at_name case s k h) (ap (λ z. next_left (partial_at_name case s z)) (sym same) ∙ m.next_is) told)
+    split_or (told-after_look case l (partial_at_name case s k) y (o' ∷ x) o (partial_at_name-partial case s k h) (ap (λ z. next_left (partial_at_name case s z)) (sym same) ∙ m.next_is) told)
     (λ p. inl p)
     (λ p. inr (p.0, (λ i. sym same i ∷ p.1 i), p.2)))
     (λ d. inl (subst (λ z. told_partial_name case z (o' ∷ x) ≡ Some o) (m.others k d) t))
 
 -- ---- what a look says is so
 
+-- where nothing is at a place, nothing is below it
 pub nowhere : (case : Case) (world : World) (q : Path) (k : Name) (z : Path) → IsClosed case world → at case world (q ++ k ∷ []) ≡ None → at case world (q ++ k ∷ z) ≡ None
 nowhere case world q k [] closed e = e
 nowhere case world q k (m ∷ z) closed e =
@@ -201,10 +204,12 @@ nowhere case world q k (m ∷ z) closed e =
     by : IsMissing ≡ IsDir → ⊥
     by d = cc
 
+-- below what is not there nothing is
 pub partial_at-not_there : (case : Case) (x : Path) → partial_at case NotThere x ≡ NotThere
 partial_at-not_there case [] = refl
 partial_at-not_there case (n ∷ x) = partial_at-not_there case x
 
+-- below what is unread nothing is read
 pub partial_at-unread : (case : Case) (x : Path) → partial_at case Unread x ≡ Unread
 partial_at-unread case [] = refl
 partial_at-unread case (n ∷ x) = partial_at-unread case x
@@ -214,6 +219,7 @@ told-not_there case [] = refl
 told-not_there case (n ∷ []) = refl
 told-not_there case (n ∷ m ∷ x) = told-not_there case (m ∷ x)
 
+-- nothing is told below what is unread
 pub told-unread : (case : Case) (x : Path) → told_partial_name case Unread x ≡ None
 told-unread case [] = refl
 told-unread case (n ∷ []) = refl
@@ -260,10 +266,6 @@ tells-here case world q s is = record {
     by : (n : Name) → None ≡ Some n → ⊥
     by n e = cc
 
-spelling-none : (e : Option Entry) → spelling_of e ≡ None → e ≡ None
-spelling-none None h = refl
-spelling-none (Some e) h = cc
-
 not_dir : (case : Case) (world : World) (q : Path) (g : Status) → status_of (at case world q) ≡ g → (g ≢ IsDir) → IsClosed case world → (k : Name) (z : Path) → at case world (q ++ k ∷ z) ≡ None
 not_dir case world q g is other closed k z = nowhere case world q k z closed (closed q k (λ d. other (sym is ∙ d)))
 
@@ -278,8 +280,8 @@ partial_of_look-tells case world q x closed = by (at case world q) refl x
         tells-nothing case world q _ k z refl (not_dir case world q (IsFile (digest_of_bytes bytes)) (ap status_of is ∙ ap status_of_node (sym n)) (λ d. cc) closed k z)
     by_node e Directory n is (k ∷ z) =
         split_or (partial_child-unread case (names case world q) k)
-        (λ h. tells-unread case world q _ k z h.0 (h.1 ∙ listed_name-names case world q k))
-        (λ h. tells-nothing case world q _ k z h.0 (nowhere case world q k z closed (spelling-none _ (sym (listed_name-names case world q k) ∙ h.1))))
+        (λ h. tells-unread case world q _ k z h.0 (h.1 ∙ listed_in-names case world q k))
+        (λ h. tells-nothing case world q _ k z h.0 (nowhere case world q k z closed (spelling-none _ (sym (listed_in-names case world q k) ∙ h.1))))
 
     by : (e : Option Entry) → at case world q ≡ e → (x : Path) → Tells case world q (partial_of_look (look_of e (names case world q))) x
     by None is [] = tells-here case world q _ (ap (λ t. Some (status_of t)) (sym is))
@@ -318,10 +320,12 @@ after_read-tells case world p s y x closed h e old = record { kind = kind; spell
         ap (λ v. spelling_of (at case world v)) (ap (λ v. p ++ v) b.1 ∙ sym (append_assoc p (place case y) b.0))
         ∙ (partial_of_look-tells case world (p ++ place case y) b.0 closed).spelling n b.2)
 
+-- names that are listed are listed
 pub partial_names-unread : (ns : List Name) → partial_names (unread ns) ≡ ns
 partial_names-unread [] = refl
 partial_names-unread (n ∷ ns) = ap (λ r. n ∷ r) (partial_names-unread ns)
 
+-- what is unread, and what is not there, lists nothing
 pub names_under : (case : Case) (t : PartialSnapshot) (z : Path) → (t ≡ Unread) ⊎ (t ≡ NotThere) → IsListed case (partial_names (partial_children (partial_at case t z)))
 names_under case t z (inl e) = subst (λ v. IsListed case (partial_names (partial_children v))) (sym (partial_at-unread case z) ∙ ap (λ v. partial_at case v z) (sym e)) (record { order = tt; few = omega arith })
 names_under case t z (inr e) = subst (λ v. IsListed case (partial_names (partial_children v))) (sym (partial_at-not_there case z) ∙ ap (λ v. partial_at case v z) (sym e)) (record { order = tt; few = omega arith })
@@ -350,19 +354,21 @@ look-partial case (SeesDir names) h [] = subst (IsListed case) (sym (partial_nam
 look-partial case (SeesDir names) h (k ∷ z) = names_under case _ z (split_or (partial_child-unread case names k) (λ u. inl u.0) (λ u. inr u.0))
 
 -- a read keeps what is listed, whatever the look
-pub after_look-listed_name : (case : Case) (l : Look) (s : PartialSnapshot) (y : Path) → IsPartialTree case (partial_of_look l) → IsPartialTree case s → next_left s ≡ Some y → IsPartialTree case (after_look l s)
-after_look-listed_name case l s y seen h e x =
+pub after_look-listed : (case : Case) (l : Look) (s : PartialSnapshot) (y : Path) → IsPartialTree case (partial_of_look l) → IsPartialTree case s → next_left s ≡ Some y → IsPartialTree case (after_look l s)
+after_look-listed case l s y seen h e x =
     split (is_at_or_above (place case y) x)
     (λ on.
     let (z, x_is) = rest_of (place case y) x on in
     subst (λ v. IsListed case (partial_names (partial_children v))) (sym (after_look-below case l s y z h e) ∙ ap (partial_at case (after_look l s)) (sym x_is)) (seen z))
     (λ off. subst (IsListed case) (sym (after_look-elsewhere case l s y x h e off).names) (h x))
 
+-- a read of a world lists names in order, and at most 4,096
 pub after_look-partial : (case : Case) (world : World) (p : Path) (s : PartialSnapshot) (y : Path) → AreFew case world → IsPartialTree case s → next_left s ≡ Some y → IsPartialTree case (after_look (look case world (p ++ place case y)) s)
-after_look-partial case world p s y few h e = after_look-listed_name case (look case world (p ++ place case y)) s y (partial_of_look-partial case world (p ++ place case y) few) h e
+after_look-partial case world p s y few h e = after_look-listed case (look case world (p ++ place case y)) s y (partial_of_look-partial case world (p ++ place case y) few) h e
 
 -- ---- what is made of a scan
 
+-- a name that is not listed is not there
 pub partial_child-unlisted : (case : Case) (partials : PartialChildren) (k : Name) → partial_child_name case partials k ≡ None → partial_child case partials k ≡ NotThere
 partial_child-unlisted case NoChildren k e = refl
 partial_child-unlisted case (PartialChild n s more) k e =
@@ -394,6 +400,7 @@ child-snapshot_made case (PartialChild n NotThere more) k h = dropped case n Not
 child-snapshot_made case (PartialChild n (FileRead bytes) more) k h = kept case n (FileRead bytes) more k (child-snapshot_made case more k h.1)
 child-snapshot_made case (PartialChild n (DirRead partials) more) k h = kept case n (DirRead partials) more k (child-snapshot_made case more k h.1)
 
+-- no location is left exactly where none is left in either
 pub below_or-none : (n : Name) (a b : Option Path) → below_or n a b ≡ None → (a ≡ None) × (b ≡ None)
 below_or-none n None b e = (refl, e)
 below_or-none n (Some x) b e = cc
@@ -428,11 +435,11 @@ partial_at_name-done case NotThere k e = refl
 partial_at_name-done case (FileRead bytes) k e = refl
 partial_at_name-done case (DirRead partials) k e = partial_child-done case partials k e
 
-snapshot_made-partial_at_name : (case : Case) (s : PartialSnapshot) (k : Name) → IsPartialTree case s → next_left s ≡ None → child case (children_of (snapshot_made s)) k ≡ snapshot_made (partial_at_name case s k)
-snapshot_made-partial_at_name case Unread k h e = cc
-snapshot_made-partial_at_name case NotThere k h e = refl
-snapshot_made-partial_at_name case (FileRead bytes) k h e = refl
-snapshot_made-partial_at_name case (DirRead partials) k h e = child-snapshot_made case partials k (h []).order
+snapshot_made-at_name : (case : Case) (s : PartialSnapshot) (k : Name) → IsPartialTree case s → next_left s ≡ None → child case (children_of (snapshot_made s)) k ≡ snapshot_made (partial_at_name case s k)
+snapshot_made-at_name case Unread k h e = cc
+snapshot_made-at_name case NotThere k h e = refl
+snapshot_made-at_name case (FileRead bytes) k h e = refl
+snapshot_made-at_name case (DirRead partials) k h e = child-snapshot_made case partials k (h []).order
 
 snapshot_made-listed_name : (case : Case) (s : PartialSnapshot) (k : Name) → IsPartialTree case s → next_left s ≡ None → listed_name case (children_of (snapshot_made s)) k ≡ unless_missing (partial_at_name case s k) (partial_child_name case (partial_children s) k)
 snapshot_made-listed_name case Unread k h e = cc
@@ -448,7 +455,7 @@ decided_status-snapshot_made (DirRead partials) e = refl
 
 sub-snapshot_made : (case : Case) (s : PartialSnapshot) (x : Path) → IsPartialTree case s → next_left s ≡ None → sub case (snapshot_made s) x ≡ snapshot_made (partial_at case s x)
 sub-snapshot_made case s [] h e = refl
-sub-snapshot_made case s (k ∷ x) h e = ap (λ t. sub case t x) (snapshot_made-partial_at_name case s k h e) ∙ sub-snapshot_made case (partial_at_name case s k) x (partial-partial_at_name case s k h) (partial_at_name-done case s k e)
+sub-snapshot_made case s (k ∷ x) h e = ap (λ t. sub case t x) (snapshot_made-at_name case s k h e) ∙ sub-snapshot_made case (partial_at_name case s k) x (partial_at_name-partial case s k h) (partial_at_name-done case s k e)
 
 partial_at-done : (case : Case) (s : PartialSnapshot) (x : Path) → next_left s ≡ None → next_left (partial_at case s x) ≡ None
 partial_at-done case s [] e = e
@@ -457,7 +464,7 @@ partial_at-done case s (k ∷ x) e = partial_at-done case (partial_at_name case 
 told-snapshot_made : (case : Case) (s : PartialSnapshot) (x : Path) → IsPartialTree case s → next_left s ≡ None → told_name case (snapshot_made s) x ≡ told_partial_name case s x
 told-snapshot_made case s [] h e = refl
 told-snapshot_made case s (k ∷ []) h e = snapshot_made-listed_name case s k h e
-told-snapshot_made case s (k ∷ m ∷ x) h e = ap (λ t. told_name case t (m ∷ x)) (snapshot_made-partial_at_name case s k h e) ∙ told-snapshot_made case (partial_at_name case s k) (m ∷ x) (partial-partial_at_name case s k h) (partial_at_name-done case s k e)
+told-snapshot_made case s (k ∷ m ∷ x) h e = ap (λ t. told_name case t (m ∷ x)) (snapshot_made-at_name case s k h e) ∙ told-snapshot_made case (partial_at_name case s k) (m ∷ x) (partial_at_name-partial case s k h) (partial_at_name-done case s k e)
 
 -- when nothing is left, the snapshot that is made agrees where the scan tells the truth
 pub snapshot_made-agrees : (case : Case) (world : World) (p : Path) (s : PartialSnapshot) (x : Path) → IsPartialTree case s → next_left s ≡ None → Tells case world p s x → Agrees case world p (snapshot_made s) x
@@ -494,6 +501,7 @@ snapshot_made-few (PartialChild n NotThere more) = omega (arith, snapshot_made-f
 snapshot_made-few (PartialChild n (FileRead bytes) more) = omega (arith, snapshot_made-few more)
 snapshot_made-few (PartialChild n (DirRead partials) more) = omega (arith, snapshot_made-few more)
 
+-- the snapshot that is made is a tree
 pub snapshot_made-tree : (case : Case) (s : PartialSnapshot) → IsPartialTree case s → next_left s ≡ None → IsTree case (snapshot_made s)
 snapshot_made-tree case s h e x = subst (λ t. IsListing case (children_of t)) (sym (sub-snapshot_made case s x h e)) (by (partial_at case s x) (h x))
   where
@@ -505,15 +513,16 @@ snapshot_made-tree case s h e x = subst (λ t. IsListing case (children_of t)) (
 
 -- ---- nothing is listed below 64 names
 
+-- nothing is below a path of 64 names
 pub names-none : (case : Case) (world : World) (q : Path) → AreShort world → 64 ≤ length q → names case world q ≡ []
 names-none case world q short deep = by (names case world q) refl
   where
     by : (ns : List Name) → names case world q ≡ ns → ns ≡ []
     by [] is = refl
     by (n ∷ ns) is =
-        let head : listed_in case (names case world q) (folded_name case n) ≡ Some n = ap (λ l. listed_in case l (folded_name case n)) is ∙ listed_name-head case n ns in
+        let head : listed_in case (names case world q) (folded_name case n) ≡ Some n = ap (λ l. listed_in case l (folded_name case n)) is ∙ listed_in-head case n ns in
         let none = too_deep case world (q ++ folded_name case n ∷ []) short (omega (arith, deep, length-append q (folded_name case n ∷ []))) in
-        absurd (clash n (sym (ap spelling_of none) ∙ sym (listed_name-names case world q (folded_name case n)) ∙ head))
+        absurd (clash n (sym (ap spelling_of none) ∙ sym (listed_in-names case world q (folded_name case n)) ∙ head))
       where
         clash : (n : Name) → None ≡ Some n → ⊥
         clash n e = cc
@@ -555,6 +564,7 @@ after_look-deep case l depth s y short h e old x deep =
     ∙ look-shallow case l (depth + length (place case y)) short z (omega (arith, deep, ap length x_is, length-append (place case y) z)))
     (λ off. (after_look-elsewhere case l s y x h e off).names ∙ old x deep)
 
+-- a read of a world lists no names at 64 names
 pub after_look-shallow : (case : Case) (world : World) (p : Path) (s : PartialSnapshot) (y : Path) → AreShort world → IsPartialTree case s → next_left s ≡ Some y → IsShallow case (length p) s → IsShallow case (length p) (after_look (look case world (p ++ place case y)) s)
 after_look-shallow case world p s y short h e old x deep =
     split (is_at_or_above (place case y) x)

@@ -86,19 +86,19 @@ pairs_left-in_line case e r tree =
     (λ t. rw (s, t) (tt, tt)))
 
 -- what stays of later pairs comes after a part of an earlier one
-count_left-after : (case : Case) (e : Path) (r x : Pair) (rs : List Pair) → IsPiece case r.path r.snapshot e x → Each (λ (q : Pair). IsTree case q.snapshot) rs → Each (λ (q : Pair). precedes r.path q.path ≡ true) rs
+left-after : (case : Case) (e : Path) (r x : Pair) (rs : List Pair) → IsPiece case r.path r.snapshot e x → Each (λ (q : Pair). IsTree case q.snapshot) rs → Each (λ (q : Pair). precedes r.path q.path ≡ true) rs
     → Each (λ (y : Pair). precedes x.path y.path ≡ true) (all_pairs_left case e rs)
-count_left-after case e r x [] a trees h = tt
-count_left-after case e r x (q ∷ rs) a trees h =
+left-after case e r x [] a trees h = tt
+left-after case e r x (q ∷ rs) a trees h =
     each-append _ (pairs_left case e q) _
     (each-weaker _ _ (λ (y : Pair) b. ap (precedes x.path) b.path_is ∙ ap (λ v. precedes v (q.path ++ b.names)) a.path_is ∙ precedes-below r.path q.path a.names b.names h.0) _ (pairs_left-are case e q trees.0))
-    (count_left-after case e r x rs a trees.1 h.1)
+    (left-after case e r x rs a trees.1 h.1)
 
 after_invalidation-in_line : (case : Case) (e : Path) (rs : List Pair) → Each (λ (q : Pair). IsTree case q.snapshot) rs → AreInLine rs → AreInLine (all_pairs_left case e rs)
 after_invalidation-in_line case e [] trees h = tt
 after_invalidation-in_line case e (r ∷ rs) trees h =
     line-append (pairs_left case e r) _ (pairs_left-in_line case e r trees.0) (after_invalidation-in_line case e rs trees.1 h.1)
-    (each-weaker _ _ (λ (x : Pair) a. count_left-after case e r x rs a trees.1 h.0) _ (pairs_left-are case e r trees.0))
+    (each-weaker _ _ (λ (x : Pair) a. left-after case e r x rs a trees.1 h.0) _ (pairs_left-are case e r trees.0))
 
 -- ---- directories
 
@@ -127,13 +127,13 @@ dirs_left-above case e r =
     (λ t. rw t tt)
 
 -- no pair that stays is at or above a place above e, nor at or above a place that none was at or above
-count_left-unrelated : (case : Case) (e : Path) (rs : List Pair) → Each (λ (q : Pair). IsTree case q.snapshot) rs → Each (λ (q : Pair). is_related e q.path ≡ false) (all_pairs_left case e rs)
-count_left-unrelated case e [] trees = tt
-count_left-unrelated case e (r ∷ rs) trees = each-append _ (pairs_left case e r) _ (each-weaker _ _ (λ (q : Pair) h. h.unrelated) _ (pairs_left-are case e r trees.0)) (count_left-unrelated case e rs trees.1)
+left-unrelated : (case : Case) (e : Path) (rs : List Pair) → Each (λ (q : Pair). IsTree case q.snapshot) rs → Each (λ (q : Pair). is_related e q.path ≡ false) (all_pairs_left case e rs)
+left-unrelated case e [] trees = tt
+left-unrelated case e (r ∷ rs) trees = each-append _ (pairs_left case e r) _ (each-weaker _ _ (λ (q : Pair) h. h.unrelated) _ (pairs_left-are case e r trees.0)) (left-unrelated case e rs trees.1)
 
 new-uncovered : (case : Case) (e : Path) (rs : List Pair) (d : Path) → Each (λ (q : Pair). IsTree case q.snapshot) rs → is_at_or_above d e ≡ true → IsUncovered (all_pairs_left case e rs) d
 new-uncovered case e rs d trees up =
-    each-weaker _ _ (λ (q : Pair) off. false_from_ne_true _ (λ on. both_ways _ (or_parts _ _ off).1 (at_or_above-trans q.path d e on up))) _ (count_left-unrelated case e rs trees)
+    each-weaker _ _ (λ (q : Pair) off. false_from_ne_true _ (λ on. both_ways _ (or_parts _ _ off).1 (at_or_above-trans q.path d e on up))) _ (left-unrelated case e rs trees)
 
 old-uncovered : (case : Case) (e : Path) (rs : List Pair) (d : Path) → Each (λ (q : Pair). IsTree case q.snapshot) rs → IsUncovered rs d → IsUncovered (all_pairs_left case e rs) d
 old-uncovered case e [] d trees h = tt
@@ -147,6 +147,7 @@ dirs-uncovered case e all [] ds trees h = each-weaker _ _ (λ d b. old-uncovered
 dirs-uncovered case e all (r ∷ rs) ds trees h =
     each-insert_dirs _ (dirs_left case e r) _ (each-weaker _ _ (λ d up. new-uncovered case e all d trees up) _ (dirs_left-above case e r)) (dirs-uncovered case e all rs ds trees h)
 
+-- an invalidation keeps the lists in shape
 pub after_invalidation-in_shape : (case : Case) (e : Path) (retained : Retained) → IsInShape case retained → IsInShape case (after_invalidation case e retained)
 after_invalidation-in_shape case e retained h = record {
   pairs = after_invalidation-in_line case e retained.pairs h.trees h.pairs;
@@ -180,6 +181,7 @@ known-off p Missing = tt
 known-off p (File digest) = ancestors-off p
 known-off p (Dir cs) = ancestors-off p
 
+-- a store of a tree keeps the lists in shape
 pub after_store-in_shape : (case : Case) (p : Path) (s : Snapshot) (retained : Retained) → IsTree case s → IsInShape case retained → IsInShape case (after_store p s retained)
 after_store-in_shape case p s retained tree h =
     split (is_covered retained.pairs p)

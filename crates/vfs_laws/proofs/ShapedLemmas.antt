@@ -15,7 +15,7 @@ use Rattle.vfs_laws.proofs.NameLemmas.{each-weaker}
 use Rattle.vfs_laws.proofs.RetainedLemmas.{tree-sub, each-filter}
 use Rattle.vfs_laws.proofs.FindLemmas.{part-from}
 use Rattle.vfs_laws.proofs.WorldLemmas.{length-place}
-use Rattle.vfs_laws.proofs.ScanningLemmas.{partial_at-unread, look-partial, after_look-listed_name, after_look-deep, snapshot_made-tree}
+use Rattle.vfs_laws.proofs.ScanningLemmas.{partial_at-unread, look-partial, after_look-listed, after_look-deep, snapshot_made-tree}
 use Rattle.vfs_laws.proofs.ContentsLemmas.{after_read-adds}
 use Rattle.vfs_laws.proofs.ShapeLemmas.{after_invalidation-in_shape, after_store-in_shape}
 use Rattle.vfs_laws.proofs.SoundLemmas.{each-set, slot-true}
@@ -57,7 +57,7 @@ read_next-shape s c t (Some y) None looks is e h = h
 read_next-shape s c t (Some y) (Some l) looks is e h =
     let old = slot-true (IsShapedSlot s.case) s.scans c t h.1 is in
     slot-shape s c _ (record {
-      partial = after_look-listed_name s.case l t.partial y (look-partial s.case l looks.listed) old.partial e;
+      partial = after_look-listed s.case l t.partial y (look-partial s.case l looks.listed) old.partial e;
       shallow = after_look-deep s.case l (length t.path) t.partial y (λ deep. looks.shallow (omega (arith, deep, length-place s.case y))) old.partial e old.shallow;
       front = (after_read-adds l t.partial y old.front e).1;
     }) h
@@ -118,6 +118,7 @@ step-shape a s (CallKind x) looks h = h
 step-shape a s (CallVersion x) looks h = h
 step-shape a s (CallFingerprint inputs) looks h = fingerprint-shape s inputs (find (λ (k : KeptPrint). is_for_inputs inputs k.seen) s.kept) h
 
+-- a step whose look lists names as a look does keeps a state in shape
 pub step-shaped : (a : Answers) (s : State) (call : Call) → IsCall call → AreLooks s call a → IsShaped s → IsShaped (step a s call).state
 step-shaped a s call few looks h =
     let t = step-shape a s call looks (h.shape, h.scans, h.kept) in

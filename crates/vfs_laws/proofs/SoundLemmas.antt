@@ -22,7 +22,7 @@ use Rattle.vfs_laws.proofs.FewLemmas.{accepted-world}
 use Rattle.vfs_laws.proofs.ScanLemmas.{agreeing-scan}
 use Rattle.vfs_laws.proofs.FindLemmas.{part-from}
 use Rattle.vfs_laws.proofs.ShapeLemmas.{after_invalidation-in_shape, after_store-in_shape}
-use Rattle.vfs_laws.proofs.RetainedLemmas.{IsDelivered, agrees-sub, tree-sub, rest-is, each-append, each-filter, each-insert_pair, each-insert_dirs, all_pairs_left-current, all_dirs_left-still, quiet}
+use Rattle.vfs_laws.proofs.RetainedLemmas.{IsDelivered, agrees-sub, tree-sub, rest-is, each-append, each-drop, each-filter, each-insert_pair, each-insert_dirs, all_pairs_left-current, all_dirs_left-still, quiet}
 use Rattle.vfs_laws.proofs.ContentsLemmas.{after_read-adds}
 use Rattle.vfs_laws.proofs.ScanningLemmas.{nowhere, partial_at-unread, told-unread, after_read-tells, after_look-partial, after_look-shallow, snapshot_made-agrees, snapshot_made-tree}
 
@@ -109,12 +109,15 @@ put_all-free case (e ∷ es) p x h =
     let one = put-free case e p x deeper.0 in
     (one.0, or_from _ _ one.1 deeper.1)
 
+-- an event more keeps what is known true
 pub after_event-sound : (s : State) (e : Path) → IsTrue s → IsTrue (after_event s e)
 after_event-sound s e h = quieter-sound s (put e s.pending) s.world (record { free = λ x m. (put-free s.case e s.pending x m).0; same = λ x m. refl }) h.world h
 
+-- a loss keeps what is known true
 pub after_loss-sound : (s : State) → IsTrue s → IsTrue (after_loss s)
 after_loss-sound s h = quieter-sound s _ s.world (record { free = λ x m. absurd (true≢false m); same = λ x m. refl }) h.world h
 
+-- an edit that is not refused, with its events, keeps what is known true
 pub after_edit-sound : (s : State) (edit : Edit) → refusal s.case s.world edit ≡ None → Each (λ (p : Path). length p ≤ 64) (events edit) → IsTrue s → IsTrue (after_edit s edit (events edit))
 after_edit-sound s edit accepted few h =
     quieter-sound s (put_all (events edit) s.pending) (apply s.case s.world edit)
@@ -145,6 +148,7 @@ each-both : {X : Type 0} (P Q R : X → Type 0) → ((x : X) → P x → Q x →
 each-both P Q R f [] h k = tt
 each-both P Q R f (x ∷ xs) h k = (f x h.0 k.0, each-both P Q R f xs h.1 k.1)
 
+-- what is pushed stays behind what is dropped
 pub drop-push : {X : Type 0} (n : ℕ) (xs : List X) (x : X) → n ≤ length xs → drop n (xs ++ x ∷ []) ≡ drop n xs ++ x ∷ []
 drop-push zero xs x h = refl
 drop-push (suc n) [] x h = absurd (omega arith)
@@ -199,6 +203,7 @@ kept-after_delivery case world before after e gone k h off = record {
         let parts = or_parts _ _ o in
         (λ x miss. c.0 x (gone.misses _ (quiet e (place case v.input.root) x parts.0) miss), by seen parts.1 c.1)
 
+-- the delivery of the first event keeps what is known true
 pub after_delivery-sound : (s : State) (e : Path) (rest : List Path) → s.pending.events ≡ e ∷ rest → IsTrue s → IsTrue (after_delivery s e rest)
 after_delivery-sound s e rest is h = record {
   world = h.world;
@@ -216,6 +221,7 @@ after_delivery-sound s e rest is h = record {
           or_from _ _ parts.0 (ap (λ es. is_told s.case es x) is ∙ or_from _ _ off parts.1);
     }
 
+-- the delivery of the mark keeps what is known true
 pub after_clear-sound : (s : State) → IsTrue s → IsTrue (after_clear s)
 after_clear-sound s h = record {
   world = h.world;
@@ -241,11 +247,13 @@ after_clear-sound s h = record {
 
 -- ---- scans
 
+-- what holds of each and of what is set holds of each then
 pub each-set : {X : Type 0} (P : X → Type 0) (xs : List X) (i : ℕ) (x : X) → P x → Each P xs → Each P (slice_set xs i x)
 each-set P [] i x h k = tt
 each-set P (y ∷ xs) zero x h k = (h, k.1)
 each-set P (y ∷ xs) (suc i) x h k = (k.0, each-set P xs i x h k.1)
 
+-- what holds of each scan holds of one in progress
 pub slot-true : (P : Option Scan → Type 0) (xs : List (Option Scan)) (i : ℕ) (s : Scan) → Each P xs → open_scan (slice_get xs i) ≡ Some s → P (Some s)
 slot-true P [] i s h e = absurd (by s e)
   where
@@ -264,9 +272,11 @@ with_scan-sound s c o t h = record {
   kept = h.kept;
 }
 
+-- a scan that is closed keeps what is known true
 pub after_close-sound : (s : State) (c : ℕ) → IsTrue s → IsTrue (after_close s c)
 after_close-sound s c h = with_scan-sound s c None tt h
 
+-- a begin keeps what is known true
 pub after_begin-sound : (s : State) (c : ℕ) (p : Path) → IsTrue s → IsTrue (after_begin s c p)
 after_begin-sound s c p h = with_scan-sound s c _ (record {
   begun_at = omega arith;
@@ -325,17 +335,18 @@ above-seen case excused world p closed = by (at case world p) refl
     by None is = tt
     by (Some e) is = by_node e e.node is
 
-above-after_looks : (case : Case) (excused : Path → Bool) (world : World) (p : Path) (t : PartialSnapshot) (y : Path) → IsClosed case world → next_left t ≡ Some y → Each (IsStillDir case excused world) (above_scan p t) → Each (IsStillDir case excused world) (above_scan p (after_look (look case world (p ++ place case y)) t))
-above-after_looks case excused world p Unread y closed e h =
+above-after_look : (case : Case) (excused : Path → Bool) (world : World) (p : Path) (t : PartialSnapshot) (y : Path) → IsClosed case world → next_left t ≡ Some y → Each (IsStillDir case excused world) (above_scan p t) → Each (IsStillDir case excused world) (above_scan p (after_look (look case world (p ++ place case y)) t))
+above-after_look case excused world p Unread y closed e h =
     let nil : y ≡ [] = heads e in
     subst (λ q. Each (IsStillDir case excused world) (above_scan p (partial_of_look (look case world q)))) (sym (append-nil p) ∙ ap (λ z. p ++ place case z) (sym nil)) (above-seen case excused world p closed)
   where
     heads : {y : Path} → Some [] ≡ Some y → y ≡ []
     heads e = cc
-above-after_looks case excused world p NotThere y closed e h = tt
-above-after_looks case excused world p (FileRead bytes) y closed e h = h
-above-after_looks case excused world p (DirRead partials) y closed e h = h
+above-after_look case excused world p NotThere y closed e h = tt
+above-after_look case excused world p (FileRead bytes) y closed e h = h
+above-after_look case excused world p (DirRead partials) y closed e h = h
 
+-- a read of what is there keeps what is known true
 pub after_read-sound : (s : State) (c : ℕ) (t : Scan) (y : Path) → scan_of s c ≡ Some t → next_left t.partial ≡ Some y → IsTrue s → IsTrue (after_read s c t (look_below s t y))
 after_read-sound s c t y is left h =
     let old = slot-true (IsTrueSlot s.case (is_hit_in s) s.world s.past) s.scans c t h.scans is in
@@ -346,7 +357,7 @@ after_read-sound s c t y is left h =
         shallow = after_look-shallow s.case s.world (place s.case t.path) t.partial y h.world.short old.partial left old.shallow;
         front = (after_read-adds (look_below s t y) t.partial y old.front left).1;
         tells = λ o x miss. after_read-tells s.case s.world (place s.case t.path) t.partial y x h.world.closed old.partial left (old.tells o x miss);
-        above = λ o. above-after_looks s.case (is_hit_in s) s.world (place s.case t.path) t.partial y h.world.closed left (old.above o);
+        above = λ o. above-after_look s.case (is_hit_in s) s.world (place s.case t.path) t.partial y h.world.closed left (old.above o);
       };
     }) h
 
@@ -356,6 +367,7 @@ known-snapshot_made p NotThere = refl
 known-snapshot_made p (FileRead bytes) = refl
 known-snapshot_made p (DirRead partials) = refl
 
+-- a publish with nothing left, of a scan that is not overtaken, keeps what is known true
 pub after_publish-sound : (s : State) (c : ℕ) (t : Scan) → scan_of s c ≡ Some t → next_left t.partial ≡ None → is_overtaken s.case s.past t ≡ false → IsTrue s → IsTrue (after_publish s c t)
 after_publish-sound s c t is left fresh h =
     let shape = after_store-in_shape s.case p (snapshot_made t.partial) s.retained (snapshot_made-tree s.case t.partial old.partial left) h.shape in
@@ -380,11 +392,6 @@ after_publish-sound s c t is left fresh h =
     old = slot-true (IsTrueSlot s.case (is_hit_in s) s.world s.past) s.scans c t h.scans is
 
 -- ---- fingerprints
-
-each-drop : {X : Type 0} (P : X → Type 0) (n : ℕ) (xs : List X) → Each P xs → Each P (drop n xs)
-each-drop P zero xs h = h
-each-drop P (suc n) [] h = tt
-each-drop P (suc n) (x ∷ xs) h = each-drop P n xs h.1
 
 -- what is found for an input is a tree, and current
 abbrev IsTrueSeen : State → Seen → Type 0
@@ -412,6 +419,7 @@ seen_inputs-true s (i ∷ more) h = by (part_of s.case s.retained.pairs (place s
           rest,
         )
 
+-- a kept fingerprint more keeps what is known true
 pub after_fingerprint-sound : (s : State) (inputs : List Input) → IsTrue s → IsTrue (after_fingerprint s (seen_inputs s.case s.retained.pairs inputs))
 after_fingerprint-sound s inputs h = record {
   world = h.world;
@@ -431,12 +439,13 @@ after_fingerprint-sound s inputs h = record {
 no_hit : (s : State) → IsSettled s → (x : Path) → is_hit_in s x ≡ false
 no_hit s h x = or_from _ _ h.mark (ap (λ es. is_told s.case es x) h.events)
 
-current-scanned_input : (s : State) → IsSettled s → IsTrue s → (r : Pair) → IsTree s.case r.snapshot → IsCurrent s.case (is_hit_in s) s.world r → r.snapshot ≡ scan s.case s.world r.path
-current-scanned_input s settled h r tree current = agreeing-scan s.case s.world r.path r.snapshot h.world.short tree (λ x. current x (no_hit s settled _))
+current-scanned : (s : State) → IsSettled s → IsTrue s → (r : Pair) → IsTree s.case r.snapshot → IsCurrent s.case (is_hit_in s) s.world r → r.snapshot ≡ scan s.case s.world r.path
+current-scanned s settled h r tree current = agreeing-scan s.case s.world r.path r.snapshot h.world.short tree (λ x. current x (no_hit s settled _))
 
-pub settled-scanned_input : (s : State) → IsSettled s → IsTrue s → IsScanned s
-settled-scanned_input s settled h = record {
-  pairs = each-both _ _ _ (current-scanned_input s settled h) s.retained.pairs h.shape.trees h.pairs;
+-- where nothing waits, all that is known is what a scan gives
+pub settled-scanned : (s : State) → IsSettled s → IsTrue s → IsScanned s
+settled-scanned s settled h = record {
+  pairs = each-both _ _ _ (current-scanned s settled h) s.retained.pairs h.shape.trees h.pairs;
   dirs = each-weaker _ _ (λ d t. t (no_hit s settled d)) s.retained.dirs h.dirs;
   kept = each-weaker _ _ (λ k t. t.digest ∙ ap (fingerprint s.case) (by k.seen t.trees t.current)) s.kept h.kept;
 }
@@ -444,5 +453,5 @@ settled-scanned_input s settled h = record {
     by : (seen : List Seen) → Each (λ (v : Seen). IsTree s.case v.snapshot) seen → Each (λ (v : Seen). IsCurrent s.case (is_hit_in s) s.world (root_pair s.case v)) seen → seen ≡ map (scanned_input s.case s.world) (map (λ (v : Seen). v.input) seen)
     by [] t c = refl
     by (v ∷ seen) t c =
-        let one = current-scanned_input s settled h (root_pair s.case v) t.0 c.0 in
+        let one = current-scanned s settled h (root_pair s.case v) t.0 c.0 in
         λ i. record { input = v.input; snapshot = one i } ∷ by seen t.1 c.1 i

@@ -69,7 +69,7 @@ slots-from case excused world at count past slots [] h is t = tt
 slots-from case excused world at count past [] (c ∷ scans) h is t = absurd is
 slots-from case excused world at count past (o ∷ slots) (c ∷ scans) h is t = (slot-from case excused world at count past o c h is.0 t.0, slots-from case excused world at count past slots scans h is.1 t.1)
 
--- what both keep
+-- what the state and the machine both keep
 abbrev Common : Type 0
 Common = Case × Pending × Retained × List KeptPrint
 
@@ -84,6 +84,7 @@ IsCommonTrue world c =
 common : {V : Type 0} (at : V → Path → ℕ) (count : V → ℕ) (m : Parts V) (s : State) → Stands at count m s → ◌≡◌ {A = Common} (s.case, s.pending, s.retained, s.kept) (m.case, m.pending, m.retained, m.kept)
 common at count m s h = λ i. (h.case i, h.pending i, h.retained i, h.kept i)
 
+-- a machine that stands for a state knows the truth where the state does
 pub truth-to : {V : Type 0} (at : V → Path → ℕ) (count : V → ℕ) (m : Parts V) (s : State) → Stands at count m s → IsTrue s → KnowsTruth at m s.world
 truth-to at count m s h t =
     let c = subst (IsCommonTrue s.world) (common at count m s h) (t.world, t.shape, t.pairs, t.dirs, t.kept) in
@@ -97,6 +98,7 @@ truth-to at count m s h t =
       kept = c.4;
     }
 
+-- a state knows the truth where a machine does that stands for it
 pub truth-from : {V : Type 0} (at : V → Path → ℕ) (count : V → ℕ) (m : Parts V) (s : State) → Stands at count m s → KnowsTruth at m s.world → IsTrue s
 truth-from at count m s h t =
     let c = subst (IsCommonTrue s.world) (sym (common at count m s h)) (t.whole, t.shape, t.pairs, t.dirs, t.kept) in

@@ -1,6 +1,7 @@
--- What an invalidation leaves: each part that has nothing to do with the path, but for what is missing.
+-- An invalidation keeps each part that is not missing and has nothing to do with the path.
 use Rattle.std.proofs.Common.{◌≡◌, ◌≢◌, true, false, List, [], ◌∷◌, ◌++◌, length, drop, refl, sym, ap, ◌∙◌, subst, Some, None, append_assoc, Bool, ◌&&◌, ◌||◌}
 use Rattle.std.proofs.lemmas.Bool.{both_ways, true≢false, or_parts, and_from, false_from_ne_true}
+use Rattle.std.proofs.Math.Seq.{drop-append_seam}
 use Rattle.vfs_model.specs.declared.Case.{Case}
 use Rattle.vfs_model.specs.Paths.{Name, Path, folded_name, is_same_name, is_at_or_above, is_related}
 use Rattle.vfs_model.specs.Snapshot.{Snapshot, Missing, Children, Nothing, Child, child, children_of, sub}
@@ -8,7 +9,7 @@ use Rattle.vfs_model.specs.Retained.{Pair, part_of, pieces_beside, pieces, pairs
 use Rattle.vfs_laws.proofs.Splits.{split}
 use Rattle.vfs_laws.proofs.PathLemmas.{same_name-refl, same_name-true, at_or_above-append, at_or_above-trans}
 use Rattle.vfs_laws.proofs.NameLemmas.{some-is}
-use Rattle.vfs_laws.proofs.RetainedLemmas.{rest-is, drop-append}
+use Rattle.vfs_laws.proofs.RetainedLemmas.{rest-is}
 
 sub-missing : (case : Case) (x : Path) → sub case Missing x ≡ Missing
 sub-missing case [] = refl
@@ -21,15 +22,15 @@ above-both (n ∷ p) a b = rw (same_name-refl n) (above-both p a b)
 longer-off : (p q x : Path) → is_at_or_above p x ≡ false → is_at_or_above (p ++ q) x ≡ false
 longer-off p q x off = false_from_ne_true _ (λ on. both_ways (is_at_or_above p x) off (at_or_above-trans p (p ++ q) x (at_or_above-append p q) on))
 
-part-count_left : (case : Case) (rs qs : List Pair) (x : Path) (f : Snapshot) → part_of case rs x ≡ Some f → part_of case (rs ++ qs) x ≡ Some f
-part-count_left case [] qs x f e = absurd (none f e)
+part-left : (case : Case) (rs qs : List Pair) (x : Path) (f : Snapshot) → part_of case rs x ≡ Some f → part_of case (rs ++ qs) x ≡ Some f
+part-left case [] qs x f e = absurd (none f e)
   where
     none : (f : Snapshot) → None ≡ Some f → ⊥
     none f e = cc
-part-count_left case (r ∷ rs) qs x f e =
+part-left case (r ∷ rs) qs x f e =
     split (is_at_or_above r.path x)
     (λ s. rw s (rw s at e))
-    (λ s. rw s (part-count_left case rs qs x f (rw s at e)))
+    (λ s. rw s (part-left case rs qs x f (rw s at e)))
 
 part-right : (case : Case) (rs qs : List Pair) (x : Path) → part_of case rs x ≡ None → part_of case (rs ++ qs) x ≡ part_of case qs x
 part-right case [] qs x e = refl
@@ -66,7 +67,7 @@ pieces_beside-other case p (Child name s more) n inner m z f off there none is =
     let k = folded_name case name in
     let on : is_at_or_above (p ++ k ∷ []) (p ++ m ∷ z) ≡ true = above-both p (k ∷ []) (m ∷ z) ∙ and_from _ _ u refl in
     let x_is : p ++ m ∷ z ≡ (p ++ k ∷ []) ++ z = (λ i. p ++ sym (same_name-true k m u) i ∷ z) ∙ sym (append_assoc p (k ∷ []) z) in
-    let rest : drop (length (p ++ k ∷ [])) (p ++ m ∷ z) ≡ z = ap (drop (length (p ++ k ∷ []))) x_is ∙ drop-append (p ++ k ∷ []) z in
+    let rest : drop (length (p ++ k ∷ [])) (p ++ m ∷ z) ≡ z = ap (drop (length (p ++ k ∷ []))) x_is ∙ drop-append_seam (p ++ k ∷ []) z in
     let part : sub case s z ≡ f = rw u at is in
     rw (t, on, rest) (ap Some part))
     (λ u.
@@ -84,7 +85,7 @@ pieces_beside-in : (case : Case) (p : Path) (cs : Children) (n : Name) (inner : 
 pieces_beside-in case p Nothing n inner z f there found is = absurd (there (sym is ∙ sub-missing case z))
 pieces_beside-in case p (Child name s more) n inner z f there found is =
     split (is_same_name (folded_name case name) n)
-    (λ t. rw t (part-count_left case inner _ (p ++ n ∷ z) f found))
+    (λ t. rw t (part-left case inner _ (p ++ n ∷ z) f found))
     (λ t.
     let away : is_at_or_above (p ++ folded_name case name ∷ []) (p ++ n ∷ z) ≡ false = above-both p (folded_name case name ∷ []) (n ∷ z) ∙ off-and _ _ t in
     rw (t, away) (pieces_beside-in case p more n inner z f there found (rw t at is)))
@@ -119,12 +120,12 @@ pieces-at case p s (n ∷ y) (m ∷ z) f off there is =
     off-and false b e = refl
 
 -- what is found and not missing stays, where it has nothing to do with the path
-pub after_invalidation-no_change : (case : Case) (e : Path) (rs : List Pair) (x : Path) (f : Snapshot) → is_related e x ≡ false → (f ≢ Missing) → part_of case rs x ≡ Some f → part_of case (all_pairs_left case e rs) x ≡ Some f
-after_invalidation-no_change case e [] x f off there found = found
-after_invalidation-no_change case e (r ∷ rs) x f off there found =
+pub after_invalidation-keeps : (case : Case) (e : Path) (rs : List Pair) (x : Path) (f : Snapshot) → is_related e x ≡ false → (f ≢ Missing) → part_of case rs x ≡ Some f → part_of case (all_pairs_left case e rs) x ≡ Some f
+after_invalidation-keeps case e [] x f off there found = found
+after_invalidation-keeps case e (r ∷ rs) x f off there found =
     split (is_at_or_above r.path x)
-    (λ on. part-count_left case (pairs_left case e r) _ x f (one on (some-is _ f (rw on at found))))
-    (λ away. part-right case (pairs_left case e r) _ x (none away) ∙ after_invalidation-no_change case e rs x f off there (rw away at found))
+    (λ on. part-left case (pairs_left case e r) _ x f (one on (some-is _ f (rw on at found))))
+    (λ away. part-right case (pairs_left case e r) _ x (none away) ∙ after_invalidation-keeps case e rs x f off there (rw away at found))
   where
     parts : (is_at_or_above e x ≡ false) × (is_at_or_above x e ≡ false)
     parts = or_parts _ _ off

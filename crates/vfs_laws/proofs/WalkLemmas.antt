@@ -1,4 +1,4 @@
--- A scan as a snapshot with holes is the same as its two lists.
+-- A scan's partial snapshot says the same as two lists: what was read, and what is left.
 use Rattle.std.proofs.Common.{◌≡◌, List, [], ◌∷◌, ◌++◌, map, length, refl, sym, ap, ◌∙◌, subst, Some, None, inr, append_assoc, append-nil, arith, length-append}
 use Rattle.std.proofs.lemmas.List.{length-map, map-append}
 use Rattle.std.specs.List.{AllByRecursion as Each}
@@ -134,7 +134,7 @@ mutual
 
 -- ---- the two lists
 
--- a read makes of the two lists of a sketch those of the sketch after it
+-- a read makes of a scan's two lists those of the scan after it
 walk-after_look : (l : Look) (s : PartialSnapshot) → IsFront s → walk_of (after_look l s) ≡ walk_with l (walk_of s)
 walk-after_look l s h =
     split_option (next_left s)
@@ -148,18 +148,20 @@ walk-after_look l s h =
     by [] e = refl
     by (x ∷ xs) e = cc
 
-front-fill_any : (l : Look) (s : PartialSnapshot) → IsFront s → IsFront (after_look l s)
-front-fill_any l s h = split_option (next_left s) (λ o. subst IsFront (sym (after_look-none l s o)) h) (λ y o. (after_read-adds l s y h o).1)
+after_look-front : (l : Look) (s : PartialSnapshot) → IsFront s → IsFront (after_look l s)
+after_look-front l s h = split_option (next_left s) (λ o. subst IsFront (sym (after_look-none l s o)) h) (λ y o. (after_read-adds l s y h o).1)
 
+-- looks leave nothing read behind the first location left
 pub after_looks-front : (looks : List Look) (s : PartialSnapshot) → IsFront s → IsFront (after_looks s looks)
 after_looks-front [] s h = h
-after_looks-front (l ∷ looks) s h = after_looks-front looks (after_look l s) (front-fill_any l s h)
+after_looks-front (l ∷ looks) s h = after_looks-front looks (after_look l s) (after_look-front l s h)
 
+-- the two lists go with the partial snapshot, look for look
 pub walk-after_looks : (looks : List Look) (s : PartialSnapshot) → IsFront s → walk_of (after_looks s looks) ≡ walk_after (walk_of s) looks
 walk-after_looks [] s h = refl
-walk-after_looks (l ∷ looks) s h = walk-after_looks looks (after_look l s) (front-fill_any l s h) ∙ ap (λ w. walk_after w looks) (walk-after_look l s h)
+walk-after_looks (l ∷ looks) s h = walk-after_looks looks (after_look l s) (after_look-front l s h) ∙ ap (λ w. walk_after w looks) (walk-after_look l s h)
 
--- a sketch is what its own looks make
+-- a scan is what its own looks make
 after_looks-append : (s : PartialSnapshot) (a b : List Look) → after_looks s (a ++ b) ≡ after_looks (after_looks s a) b
 after_looks-append s [] b = refl
 after_looks-append s (l ∷ a) b = after_looks-append (after_look l s) a b
@@ -167,8 +169,8 @@ after_looks-append s (l ∷ a) b = after_looks-append (after_look l s) a b
 looks-append : (a b : List Reading) → looks_of (a ++ b) ≡ looks_of a ++ looks_of b
 looks-append a b = map-append _ a b
 
-refilled : (l : Look) (s : PartialSnapshot) → IsFront s → after_looks Unread (looks_of (readings s)) ≡ s → after_looks Unread (looks_of (readings (after_look l s))) ≡ after_look l s
-refilled l s h e =
+own_looks-make : (l : Look) (s : PartialSnapshot) → IsFront s → after_looks Unread (looks_of (readings s)) ≡ s → after_looks Unread (looks_of (readings (after_look l s))) ≡ after_look l s
+own_looks-make l s h e =
     split_option (next_left s)
     (λ o. ap (λ t. after_looks Unread (looks_of (readings t))) (after_look-none l s o) ∙ e ∙ sym (after_look-none l s o))
     (λ y o.
@@ -177,15 +179,17 @@ refilled l s h e =
     ∙ after_looks-append Unread (looks_of (readings s)) (l ∷ [])
     ∙ ap (after_look l) e)
 
-pub refilled-all : (looks : List Look) (s : PartialSnapshot) → IsFront s → after_looks Unread (looks_of (readings s)) ≡ s → after_looks Unread (looks_of (readings (after_looks s looks))) ≡ after_looks s looks
-refilled-all [] s h e = e
-refilled-all (l ∷ looks) s h e = refilled-all looks (after_look l s) (front-fill_any l s h) (refilled l s h e)
+-- a scan that its own looks make is so after more looks
+pub own_looks-make_all : (looks : List Look) (s : PartialSnapshot) → IsFront s → after_looks Unread (looks_of (readings s)) ≡ s → after_looks Unread (looks_of (readings (after_looks s looks))) ≡ after_looks s looks
+own_looks-make_all [] s h e = e
+own_looks-make_all (l ∷ looks) s h e = own_looks-make_all looks (after_look l s) (after_look-front l s h) (own_looks-make l s h e)
 
 -- the first location left, and how many there are
 pub locations_left-next_left : (s : PartialSnapshot) → next_left s ≡ first_of (locations_left s)
 locations_left-next_left s = split_option (next_left s) (λ o. o ∙ sym (ap first_of (locations_left-none s o))) (λ y o. o ∙ sym (ap first_of (locations_left-after_look SeesNothing s y o).old))
 
 mutual
+  -- how many are left is how long the list is
   pub locations_left-count_left : (s : PartialSnapshot) → count_left s ≡ length (locations_left s)
   locations_left-count_left Unread = omega arith
   locations_left-count_left NotThere = omega arith
@@ -202,7 +206,7 @@ mutual
 
 -- ---- what was read comes before what is left
 
--- the name of the first location left is that of a kid
+-- the name of the first location left is that of a child
 record IsNamed (P : Name → Type 0) (y : Path) : Type 0 where
   name : Name
   rest : Path
@@ -216,7 +220,7 @@ next_left_in-named P (PartialChild n s more) y h e =
     (λ o. next_left_in-named P more y h.1 (rw o at e))
     (λ x o. record { name = n; rest = x; is = sym (some-is _ y (rw o at e)); holds = h.0 })
 
--- in each directory of the sketch the names are in order
+-- in each directory that was read the names are in order
 abbrev mutual
   pub IsOrdered : Case → PartialSnapshot → Type 0
   IsOrdered case Unread = Unit {0}
@@ -290,6 +294,7 @@ ordered-head : (case : Case) (n : Name) (s : PartialSnapshot) (more : PartialChi
 ordered-head case n s more h x = subst (λ v. IsListed case (partial_names (partial_children (partial_at case v x)))) (rw (same_name-refl (folded_name case n)) refl) (h (folded_name case n ∷ x))
 
 mutual
+  -- a partial tree is in order in each directory, by recursion
   pub ordered : (case : Case) (s : PartialSnapshot) → IsPartialTree case s → IsOrdered case s
   ordered case Unread h = tt
   ordered case NotThere h = tt

@@ -30,10 +30,12 @@ is_dir-is IsDir m f = refl
 
 -- ---- what is at a place after an edit
 
+-- an entry that the test refuses does not change what is found
 pub find-append_off : {X : Type 0} (t : X → Bool) (xs : List X) (e : X) → t e ≡ false → find t (xs ++ e ∷ []) ≡ find t xs
 find-append_off t [] e h = rw h refl
 find-append_off t (x ∷ xs) e h = ap (λ r. cond (t x) (Some x) r) (find-append_off t xs e h)
 
+-- entries that stay, or that the test refuses before and after, do not change what is found
 pub find-map_off : {X : Type 0} (t : X → Bool) (f : X → X) → ((e : X) → (f e ≡ e) ⊎ ((t e ≡ false) × (t (f e) ≡ false))) → (xs : List X) → find t (map f xs) ≡ find t xs
 find-map_off t f h [] = refl
 find-map_off t f h (e ∷ xs) =
@@ -48,12 +50,14 @@ find-filter_none t k h (e ∷ xs) =
     (λ s. rw s (split (t e) (λ u. absurd (both_ways (k e) (h e u) s)) (λ u. rw u (find-filter_none t k h xs))))
     (λ s. rw s (find-filter_none t k h xs))
 
+-- what is found in a list that is mapped is what is found in the list, mapped
 pub find-map_each : {X : Type 0} (t u : X → Bool) (f : X → X) (xs : List X) → Each (λ e. t (f e) ≡ u e) xs → find t (map f xs) ≡ option_map f (find u xs)
 find-map_each t u f [] h = refl
 find-map_each t u f (e ∷ xs) h = rw h.0 (split (u e) (λ s. rw s refl) (λ s. rw s (find-map_each t u f xs h.1)))
 
 -- ---- parents
 
+-- the place of a parent
 pub parent_place : (case : Case) (p x : Path) (n : Name) → place case p ≡ x ++ n ∷ [] → place case (parent p) ≡ x
 parent_place case [] [] n e = cc
 parent_place case [] (a ∷ x) n e = cc
@@ -82,6 +86,7 @@ not_below (a ∷ x) n = rw (same_name-refl a) (not_below x n)
 missing≢dir : IsMissing ≢ IsDir
 missing≢dir e = cc
 
+-- what is missing has no entry
 pub missing-none : (e : Option Entry) → is_missing (status_of e) ≡ true → e ≡ None
 missing-none None h = refl
 missing-none (Some e) h = absurd (by e.node h)
@@ -100,8 +105,8 @@ dir-test IsDir h = absurd (true≢false h)
 
 -- ---- a new entry
 
-new-after_close : (case : Case) (world : World) (p : Path) (node : Node) → status_of (at case world (place case (parent p))) ≡ IsDir → at case world (place case p) ≡ None → IsClosed case world → IsClosed case (world ++ record { path = p; node = node } ∷ [])
-new-after_close case world p node parent_dir none closed x n other =
+new-closed : (case : Case) (world : World) (p : Path) (node : Node) → status_of (at case world (place case (parent p))) ≡ IsDir → at case world (place case p) ≡ None → IsClosed case world → IsClosed case (world ++ record { path = p; node = node } ∷ [])
+new-closed case world p node parent_dir none closed x n other =
     split (is_same_place (place case p) (x ++ n ∷ []))
     (λ s.
     let x_is : place case (parent p) ≡ x = parent_place case p x n (same_place-true _ (x ++ n ∷ []) s) in
@@ -116,14 +121,15 @@ new-after_close case world p node parent_dir none closed x n other =
 
 -- ---- a file's new bytes
 
+-- a write leaves every entry elsewhere
 pub entry_after_write-off : (case : Case) (p x : Path) (bytes : List ℕ) → is_same_place (place case p) x ≡ false → (e : Entry) → (entry_after_write case p bytes e ≡ e) ⊎ ((is_same_place (place case e.path) x ≡ false) × (is_same_place (place case (entry_after_write case p bytes e).path) x ≡ false))
 entry_after_write-off case p x bytes off e =
     split (is_same_place (place case e.path) (place case p))
     (λ s. let h = ap (λ z. is_same_place z x) (same_place-true _ (place case p) s) ∙ off in inr (h, rw s h))
     (λ s. inl (rw s refl))
 
-entry_after_write-after_close : (case : Case) (world : World) (p : Path) (bytes : List ℕ) → (status_of (at case world (place case p)) ≢ IsDir) → (at case world (place case p) ≢ None) → IsClosed case world → IsClosed case (map (entry_after_write case p bytes) world)
-entry_after_write-after_close case world p bytes file there closed x n other =
+entry_after_write-closed : (case : Case) (world : World) (p : Path) (bytes : List ℕ) → (status_of (at case world (place case p)) ≢ IsDir) → (at case world (place case p) ≢ None) → IsClosed case world → IsClosed case (map (entry_after_write case p bytes) world)
+entry_after_write-closed case world p bytes file there closed x n other =
     let none : at case world (x ++ n ∷ []) ≡ None =
     closed x n
     (split (is_same_place (place case p) x)
@@ -135,6 +141,7 @@ entry_after_write-after_close case world p bytes file there closed x n other =
 
 -- ---- a removal
 
+-- nothing is left at and below what is removed
 pub removed-at : (case : Case) (world : World) (p x : Path) → is_at_or_above (place case p) x ≡ true → at case (filter (λ (e : Entry). not (is_at_or_above (place case p) (place case e.path))) world) x ≡ None
 removed-at case world p x on =
     find-filter_none _ _ (λ e s. not_from_true _ (ap (is_at_or_above (place case p)) (same_place-true (place case e.path) x s) ∙ on)) world
@@ -142,8 +149,8 @@ removed-at case world p x on =
 not_below-child : (P x : Path) (n : Name) → is_at_or_above P (x ++ n ∷ []) ≡ false → is_at_or_above P x ≡ false
 not_below-child P x n off = false_from_ne_true _ (λ on. both_ways _ off (at_or_above-trans P x (x ++ n ∷ []) on (at_or_above-append x (n ∷ []))))
 
-removed-after_close : (case : Case) (world : World) (p : Path) → IsClosed case world → IsClosed case (apply case world (Remove p))
-removed-after_close case world p closed x n other =
+removed-closed : (case : Case) (world : World) (p : Path) → IsClosed case world → IsClosed case (apply case world (Remove p))
+removed-closed case world p closed x n other =
     split (is_at_or_above (place case p) (x ++ n ∷ []))
     (λ on. removed-at case world p (x ++ n ∷ []) on)
     (λ off.
@@ -157,11 +164,13 @@ same_place-front : (a r z : Path) → is_same_place (a ++ r) (a ++ z) ≡ is_sam
 same_place-front [] r z = refl
 same_place-front (n ∷ a) r z = rw (same_name-refl n) (same_place-front a r z)
 
+-- the place without its first names
 pub place-drop : (case : Case) (n : ℕ) (p : Path) → place case (drop n p) ≡ drop n (place case p)
 place-drop case zero p = refl
 place-drop case (suc n) [] = refl
 place-drop case (suc n) (a ∷ p) = place-drop case n p
 
+-- a place has as many names as its path
 pub length-place : (case : Case) (p : Path) → length (place case p) ≡ length p
 length-place case [] = refl
 length-place case (n ∷ p) = ap suc (length-place case p)
@@ -210,11 +219,13 @@ entry_after_move-same case world p q z closed free e there =
     (λ same. both_ways _ off (ap (is_at_or_above (place case p)) (e_is ∙ ap (λ v. v ++ z) same) ∙ at_or_above-append (place case p) z))) in
     rw off (first ∙ sym second))
 
+-- what is found at and below the end of a move was found at and below its begin
 pub entry_after_move-at : (case : Case) (world : World) (p q z : Path) → IsClosed case world → IsFree case world p q
     → at case (apply case world (Move p q)) (place case q ++ z) ≡ option_map (entry_after_move case p q) (at case world (place case p ++ z))
 entry_after_move-at case world p q z closed free =
     find-map_each _ _ (entry_after_move case p q) world (each-weaker _ _ (entry_after_move-same case world p q z closed free) world (each-there case world))
 
+-- nothing is left where a move came from
 pub entry_after_move-gone : (case : Case) (world : World) (p q x : Path) → is_at_or_above (place case p) x ≡ true → is_at_or_above (place case q) x ≡ false → at case (apply case world (Move p q)) x ≡ None
 entry_after_move-gone case world p q x on off = by world
   where
@@ -243,10 +254,10 @@ last_step (a ∷ Q) (b ∷ x) n on =
     (λ h. inl (and_from _ _ parts.0 h))
     (λ h. inr (λ i. same_name-true a b parts.0 i ∷ h i))
 
-entry_after_move-after_close : (case : Case) (world : World) (p q : Path) → status_of (at case world (place case (parent q))) ≡ IsDir → IsFree case world p q → is_strictly_below case q p ≡ false → IsClosed case world → IsClosed case (apply case world (Move p q))
-entry_after_move-after_close case world p q parent_dir free outside closed x n other =
+entry_after_move-closed : (case : Case) (world : World) (p q : Path) → status_of (at case world (place case (parent q))) ≡ IsDir → IsFree case world p q → is_strictly_below case q p ≡ false → IsClosed case world → IsClosed case (apply case world (Move p q))
+entry_after_move-closed case world p q parent_dir free outside closed x n other =
     split (is_at_or_above Q (x ++ n ∷ []))
-    (λ on. split_or (last_step Q x n on) partial_at_name edge)
+    (λ on. split_or (last_step Q x n on) inside edge)
     (λ off. beyond off (not_below-child Q x n off))
   where
     P : Path
@@ -259,8 +270,8 @@ entry_after_move-after_close case world p q parent_dir free outside closed x n o
     w' = apply case world (Move p q)
 
     -- below what was moved
-    partial_at_name : is_at_or_above (place case q) x ≡ true → at case (apply case world (Move p q)) (x ++ n ∷ []) ≡ None
-    partial_at_name on =
+    inside : is_at_or_above (place case q) x ≡ true → at case (apply case world (Move p q)) (x ++ n ∷ []) ≡ None
+    inside on =
         let (z, x_is) = rest_of (place case q) x on in
         let here : status_of (at case world (place case p ++ z)) ≢ IsDir =
         λ d. other (ap (λ v. status_of (at case (apply case world (Move p q)) v)) x_is ∙ ap status_of (entry_after_move-at case world p q z closed free) ∙ entry_after_move-status case p q (at case world (place case p ++ z)) ∙ d) in
@@ -294,23 +305,25 @@ entry_after_move-after_close case world p q parent_dir free outside closed x n o
 
 -- ---- an edit that is not refused
 
+-- what is not missing has an entry
 pub present : (case : Case) (world : World) (p : Path) → is_missing (status_there case world p) ≡ false → at case world (place case p) ≢ None
 present case world p h none = both_ways _ h (none-missing _ none)
 
-pub accepted-after_close : (case : Case) (world : World) (edit : Edit) → refusal case world edit ≡ None → IsClosed case world → IsClosed case (apply case world edit)
+-- an edit that is not refused leaves nothing in what is no directory
+pub accepted-closed : (case : Case) (world : World) (edit : Edit) → refusal case world edit ≡ None → IsClosed case world → IsClosed case (apply case world edit)
 unfolding IsFree
-accepted-after_close case world (Write p bytes) e closed =
+accepted-closed case world (Write p bytes) e closed =
     let t = each-fails (refusals case world (Write p bytes)) e in
     split (is_missing (status_there case world p))
-    (λ m. rw m (new-after_close case world p (Regular bytes) (is_dir-is _ t.1.0 t.1.1.0) (missing-none _ m) closed))
-    (λ m. rw m (entry_after_write-after_close case world p bytes (dir-test _ t.1.1.1.0) (present case world p m) closed))
-accepted-after_close case world (Mkdir p) e closed =
+    (λ m. rw m (new-closed case world p (Regular bytes) (is_dir-is _ t.1.0 t.1.1.0) (missing-none _ m) closed))
+    (λ m. rw m (entry_after_write-closed case world p bytes (dir-test _ t.1.1.1.0) (present case world p m) closed))
+accepted-closed case world (Mkdir p) e closed =
     let t = each-fails (refusals case world (Mkdir p)) e in
-    new-after_close case world p Directory (is_dir-is _ t.1.0 t.1.1.0) (missing-none _ (not-false _ t.1.1.1.0)) closed
-accepted-after_close case world (Remove p) e closed = removed-after_close case world p closed
-accepted-after_close case world (Move p q) e closed =
+    new-closed case world p Directory (is_dir-is _ t.1.0 t.1.1.0) (missing-none _ (not-false _ t.1.1.1.0)) closed
+accepted-closed case world (Remove p) e closed = removed-closed case world p closed
+accepted-closed case world (Move p q) e closed =
     let t = each-fails (refusals case world (Move p q)) e in
-    entry_after_move-after_close case world p q (is_dir-is _ t.1.1.1.0 t.1.1.1.1.0)
+    entry_after_move-closed case world p q (is_dir-is _ t.1.1.1.0 t.1.1.1.1.0)
     (split_or (and_cases _ _ t.1.1.1.1.1.0) (λ a. inl (missing-none _ (not-false _ a))) (λ b. inr (same_place-true (place case q) (place case p) (not-false _ b))))
     t.1.1.0 closed
 
@@ -402,6 +415,7 @@ entry_after_move-apart case world p q closed free a b there_a there_b off =
     (ap (is_same_place (place case (entry_after_move case p q b).path)) m.1 ∙ entry_after_move-same case world p q m.0 closed free b there_b ∙ ap (is_same_place (place case b.path)) m.2 ∙ same_place-flip (place case a.path) _ off))
     (λ out_a. let a_is : place case (entry_after_move case p q a).path ≡ place case a.path = rw out_a refl in (λ i. is_same_place (a_is i) (b_is i)) ∙ off))
 
+-- an edit that is not refused leaves no two entries at one place
 pub accepted-distinct : (case : Case) (world : World) (edit : Edit) → refusal case world edit ≡ None → IsClosed case world → AreDistinct case world → AreDistinct case (apply case world edit)
 unfolding IsFree
 accepted-distinct case world (Write p bytes) e closed h =
@@ -419,6 +433,7 @@ accepted-distinct case world (Move p q) e closed h =
     let free : IsFree case world p q = split_or (and_cases _ _ t.1.1.1.1.1.0) (λ a. inl (missing-none _ (not-false _ a))) (λ b. inr (same_place-true (place case q) (place case p) (not-false _ b))) in
     distinct-map case (entry_after_move case p q) (λ f. at case world (place case f.path) ≢ None) world (λ a b. entry_after_move-apart case world p q closed free a b) (each-there case world) h
 
+-- where a move is not refused, nothing stands at its end, or what is moved
 pub accepted-free : (case : Case) (world : World) (p q : Path) → refusal case world (Move p q) ≡ None → IsFree case world p q
 unfolding IsFree
 accepted-free case world p q e =
@@ -431,6 +446,7 @@ off-root : (case : Case) (p : Path) → is_root p ≡ false → is_at_or_above (
 off-root case [] h = absurd (true≢false h)
 off-root case (n ∷ p) h = refl
 
+-- an edit that is not refused does not touch the root
 pub accepted-root : (case : Case) (world : World) (edit : Edit) → refusal case world edit ≡ None → is_told case (events edit) [] ≡ false
 accepted-root case world (Write p bytes) e = or_from _ _ (off-root case p (each-fails (refusals case world (Write p bytes)) e).0) refl
 accepted-root case world (Mkdir p) e = or_from _ _ (off-root case p (each-fails (refusals case world (Mkdir p)) e).0) refl

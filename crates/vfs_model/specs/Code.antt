@@ -1,4 +1,4 @@
--- Codes of snapshots, sketches and of all that a machine keeps, by which proofs tell them apart: a struct may have them as its value.
+-- Codes of snapshots, of scans in progress and of all that a machine keeps: proofs tell values apart by their codes, and so a struct may have them as its value.
 use Rattle.std.specs.Prelude.{◌≡◌, ℕ, Bool, true, false, List, Option, Some, None}
 use Rattle.std.proofs.Common.{refl, sym, ap}
 use Rattle.std.specs.Coded.{Coded, code_by, coded×, coded_ℕ, coded_list, coded_option, coded_bool}
@@ -59,14 +59,14 @@ snapshot_code = record { code = snapshot_gv; inj = snapshot_inj }
 abbrev pub children_code : Coded Children
 children_code = record { code = children_gv; inj = children_inj }
 
--- ---- sketches
+-- ---- what a scan in progress has
 
 abbrev mutual
   pub partial_gv : PartialSnapshot → Gv
   partial_gv Unread = gnil
   partial_gv NotThere = gnum 0
   partial_gv (FileRead bytes) = gcons (gnum 0) (bytes_code.code bytes)
-  partial_gv (DirRead partials) = gcons (gnum 1) (partials_gv partials)
+  partial_gv (DirRead below) = gcons (gnum 1) (partials_gv below)
 
   pub partials_gv : PartialChildren → Gv
   partials_gv NoChildren = gnil

@@ -4,7 +4,7 @@ use Rattle.std.specs.List.{list_any}
 use Rattle.vfs_model.specs.Paths.{Path, Case, place, is_at_or_above, is_same_place}
 use Rattle.vfs_model.specs.World.{World, Directory, Regular, Entry, at, names, Status, IsMissing, IsFile, IsDir, status_of}
 
--- an edit of a tree
+-- an edit of a tree: a file is written, a directory is made, a location is removed with all below it, or moved with all below it
 pub data Edit : Type 0 where
   Write : (path : Path) → (bytes : List ℕ) → Edit
   Mkdir : (path : Path) → Edit
@@ -13,14 +13,23 @@ pub data Edit : Type 0 where
 
 -- why an edit is refused
 pub data Refusal : Type 0 where
+  -- it is an edit of the root, or a move to it
   Root : Refusal
+  -- the directory that the path is to stand in is missing
   NoParent : Refusal
+  -- a file stands where that directory should
   NotDir : Refusal
+  -- something is in the way: a directory at the path of a write, anything at the path of a new directory, anything but what is moved at the end of a move
   Exists : Refusal
+  -- nothing is there to remove or to move
   Absent : Refusal
+  -- it is a move to a path strictly below what is moved
   IntoItself : Refusal
+  -- a moved path would have more than 64 names
   TooDeep : Refusal
+  -- the directory has 4,096 names already
   Crowded : Refusal
+  -- the tree takes no edits; such a tree tells no world, and so no test of a world stands for it
   ReadOnly : Refusal
 
 -- the path without its last name
@@ -65,7 +74,7 @@ status_there case world path = status_of (at case world (place case path))
 abbrev pub is_full : Case → World → Path → Bool
 is_full case world path = nat_le 4096 (length (names case world (place case path)))
 
--- some path at or below the first would have more than 64 names below the second
+-- some path at or below the first would have more than 64 names after a move to the second
 abbrev pub is_too_deep : Case → World → Path → Path → Bool
 is_too_deep case world from to =
     list_any (λ (e : Entry). is_at_or_above (place case from) (place case e.path) && nat_lt 64 (length to + (length e.path - length from))) world
@@ -110,11 +119,11 @@ refusals case world (Move p q) =
 abbrev pub refusal : Case → World → Edit → Option Refusal
 refusal case world edit = first_refusal (refusals case world edit)
 
--- the file's bytes are replaced, and its name keeps its spelling
+-- the entry at p has these bytes, and its path keeps its spelling; every other one stays
 abbrev pub entry_after_write : Case → Path → List ℕ → Entry → Entry
 entry_after_write case p bytes e = if is_same_place (place case e.path) (place case p) then record { path = e.path; node = Regular bytes } else e
 
--- an entry at or below p goes to q, with the names below p as they are
+-- an entry at or below p goes to q, with the names below p as they are; every other one stays
 abbrev pub entry_after_move : Case → Path → Path → Entry → Entry
 entry_after_move case p q e =
     if is_at_or_above (place case p) (place case e.path) then record { path = q ++ drop (length p) e.path; node = e.node } else e
@@ -136,4 +145,4 @@ events (Move p q) = p ∷ q ∷ []
 
 -- one of these paths is at or above the place
 abbrev pub is_told : Case → List Path → Path → Bool
-is_told case events x = list_any (λ e. is_at_or_above (place case e) x) events
+is_told case told x = list_any (λ e. is_at_or_above (place case e) x) told

@@ -1,4 +1,4 @@
--- Histories of calls and replies.
+-- Histories: calls, what the tree answered in them, and replies.
 use Rattle.std.specs.Prelude.{◌≡◌, ℕ, ◌≤◌, ◌<◌, Bool, true, false, ◌&&◌, List, [], ◌∷◌, ◌++◌, length, if◌then◌else◌, nat_eq, Option, Some, None, ◌⊎◌, replicate}
 use Rattle.std.specs.List.{list_any, AllByRecursion as Each}
 use Rattle.vfs_model.specs.Paths.{Path, Case, place, is_related}
@@ -18,7 +18,7 @@ pub record Operation : Type 0 where
   pub answers : Answers
   pub reply : Reply
 
--- the call did nothing, for want of memory
+-- the reply says that memory was wanting, and so the call did nothing
 abbrev pub is_no_memory : Reply → Bool
 is_no_memory NoMemory = true
 is_no_memory _ = false
@@ -42,7 +42,7 @@ pub record AreInputs (inputs : List Input) : Type 0 where
   pub few : length inputs ≤ 64
   pub short : Each (λ (i : Input). IsShort i.root) inputs
 
--- what a call asks of its caller: short paths, one of sixteen scans, and 1 to 64 inputs
+-- what a call asks of its caller: paths of at most 64 names, one of the scans 0 to 15, and 1 to 64 inputs
 abbrev pub IsCall : Call → Type 0
 IsCall (CallEdit edit) = Each IsShort (events edit)
 IsCall (CallEvent p) = IsShort p
@@ -58,7 +58,7 @@ IsCall (CallKind p) = IsShort p
 IsCall (CallVersion p) = IsShort p
 IsCall (CallFingerprint inputs) = AreInputs inputs
 
--- whether a call takes memory, and so may answer that there is none
+-- the call takes memory, and so may answer that it is wanting
 abbrev pub takes_memory : Call → Bool
 takes_memory (CallEvent e) = false
 takes_memory CallLose = false
@@ -73,7 +73,7 @@ pub record IsStep (s : State) (o : Operation) : Type 0 where
   pub due : AreDue s o.call o.answers
   pub reply : o.reply ≡ (step o.answers s o.call).reply
 
--- the call may be made, and it had its step, or memory was wanting where the call takes some
+-- the call is one that may be made, and either it takes memory and that was wanting, or it had its step
 pub record IsLegalOperation (s : State) (o : Operation) : Type 0 where
   pub call : IsCall o.call
   pub reply : ((is_no_memory o.reply && takes_memory o.call) ≡ true) ⊎ IsStep s o
@@ -105,29 +105,29 @@ is_closed_by Stored = true
 is_closed_by (Dropped was_open) = was_open
 is_closed_by _ = false
 
--- the entry closes the scan
+-- the operation closes the scan
 abbrev pub is_closing : ℕ → Operation → Bool
 is_closing c o = is_on c o.call && is_closed_by o.reply
 
--- the reply says that the scan was overtaken
+-- the reply says that the scan is overtaken
 abbrev pub is_stale : Reply → Bool
 is_stale (Stale n) = true
 is_stale _ = false
 
 -- ---- what changes what is retained
 
--- a change of what is retained: a snapshot is kept, a place is gone, or all is
+-- a change of what is retained: a snapshot is kept at a path, what has to do with a path is gone, or all is gone
 pub data Change : Type 0 where
   Kept : (path : Path) → Snapshot → Change
   Gone : (path : Path) → Change
   AllGone : Change
 
--- what a publish keeps
+-- the change of a publish that stored what the scan read
 abbrev pub change_kept : Option Scan → List Change
 change_kept None = []
 change_kept (Some scan) = Kept scan.path (snapshot_made scan.partial) ∷ []
 
--- the changes that an operation makes, by its reply
+-- the changes that a call makes, by its reply: at most one
 abbrev pub changes_of : State → Call → Reply → List Change
 changes_of s (CallPublish c) Stored = change_kept (scan_of s c)
 changes_of s call (Delivered e) = Gone e ∷ []
@@ -154,7 +154,7 @@ after_changes case (c ∷ more) retained = after_changes case more (after_change
 abbrev pub is_invalidated_in : Case → Path → List Operation → Bool
 is_invalidated_in case p h = list_any (λ (o : Operation). is_invalidating case p o.reply) h
 
--- no entry closes the scan
+-- no operation closes the scan
 abbrev pub KeepsOpen : ℕ → List Operation → Type 0
 KeepsOpen c h = Each (λ (o : Operation). is_closing c o ≡ false) h
 
@@ -163,7 +163,7 @@ abbrev pub is_scan_overtaken : State → Option Scan → Bool
 is_scan_overtaken s None = false
 is_scan_overtaken s (Some scan) = is_overtaken s.case s.past scan
 
--- the world and the capacity that are given; nothing is pending, invalidated, retained or kept, and each of the sixteen scans is closed
+-- a state before any call: its world is one, its numbers are within the limits, nothing is pending, invalidated, retained or kept, and each of the sixteen scans is closed
 pub record IsOpening (s : State) : Type 0 where
   pub world : IsWorld s.case s.world
   pub limits : IsInLimits s
@@ -173,7 +173,7 @@ pub record IsOpening (s : State) : Type 0 where
   pub scans : Each (λ (o : Option Scan). o ≡ None) s.scans
   pub kept : s.kept ≡ []
 
--- the state before the first call: the world that is given, nothing pending, retained or kept, and sixteen closed scans
+-- the state before any call, of the world and the capacity that are given
 abbrev pub opening : Case → ℕ → World → State
 opening case capacity world = record {
   case = case;
@@ -191,16 +191,16 @@ empty_world = record { path = []; node = Directory } ∷ []
 
 -- ---- a scan by its own operations
 
--- what a read of the scan c saw comes into its sketch
+-- what the scan c has after a call: the look of its own read comes in
 abbrev pub own_read : ℕ → Call → Reply → Option Look → PartialSnapshot → PartialSnapshot
 own_read c (CallRead d) (Saw x kind n) (Some l) t = if nat_eq d c then after_look l t else t
 own_read c call reply look t = t
 
--- the sketch of the scan c after an operation
+-- what the scan c has after an operation
 abbrev pub own_step : ℕ → Operation → PartialSnapshot → PartialSnapshot
 own_step c o t = own_read c o.call o.reply o.answers.look t
 
--- the sketch of the scan c after a history
+-- what the scan c has after a history in which nothing closes it
 abbrev pub own_partial : ℕ → List Operation → PartialSnapshot → PartialSnapshot
 own_partial c [] t = t
 own_partial c (o ∷ h) t = own_partial c h (own_step c o t)

@@ -10,7 +10,7 @@ pub use Rattle.vfs_model.specs.declared.Case.TheVariants.{Sensitive, Insensitive
 abbrev pub Name : Type 0
 Name = List ℕ
 
--- a path is its names, from the root down; the root is the empty list
+-- a path is its names, from the root down; the root is the empty list. No more than 64 names are a premise where it counts, and no part of the type
 abbrev pub Path : Type 0
 Path = List Name
 
@@ -27,7 +27,7 @@ folded_byte Insensitive byte = lowered_byte byte
 abbrev pub folded_name : Case → Name → Name
 folded_name case name = map (folded_byte case) name
 
--- where a path leads: two paths are the same location exactly where their places are equal
+-- where a path leads, its names folded: two paths are the same location exactly where their places are equal
 abbrev pub place : Case → Path → Path
 place case path = map (folded_name case) path
 
@@ -39,7 +39,7 @@ is_same_name = pointwise nat_eq
 abbrev pub name_order : Case → Name → Name → Ordering
 name_order case a b = slice_cmp nat_cmp (folded_name case a) (folded_name case b)
 
--- the first place is that of the second, or of a directory that it lies in
+-- the names of the first place are, one by one, the first names of the second: the two are equal, or the second lies below the first
 abbrev pub is_at_or_above : Path → Path → Bool
 is_at_or_above [] y = true
 is_at_or_above (n ∷ x) [] = false
@@ -49,11 +49,11 @@ is_at_or_above (n ∷ x) (m ∷ y) = is_same_name n m && is_at_or_above x y
 abbrev pub is_related : Path → Path → Bool
 is_related x y = is_at_or_above x y || is_at_or_above y x
 
--- each of the places is at or above the other
+-- the places are equal, name by name: each is at or above the other
 abbrev pub is_same_place : Path → Path → Bool
 is_same_place x y = is_at_or_above x y && is_at_or_above y x
 
--- the second place is a child of the first
+-- the second place is a child of the first: it has one name more
 abbrev pub is_child : Path → Path → Bool
 is_child [] [] = false
 is_child [] (n ∷ []) = true

@@ -9,12 +9,12 @@ use Rattle.vfs_model.specs.Paths.{Name, Path, Case, folded_name, is_same_name, i
 use Rattle.vfs_model.specs.Snapshot.{Snapshot, Missing, File, Dir, Children, Nothing, Child, child, children_of, sub, status, IsTree}
 use Rattle.vfs_model.specs.World.{Kind, DirKind, kind_of_status}
 
--- a place and its snapshot
+-- a place and the snapshot that is retained of it
 pub record Pair : Type 0 where
   pub path : Path
   pub snapshot : Snapshot
 
--- pairs of places and snapshots, and places known to be directories
+-- what is retained: pairs, and places known to be directories
 pub record Retained : Type 0 where
   pub pairs : List Pair
   pub dirs : List Path
@@ -44,7 +44,7 @@ kind_of case retained x = kind_or (part_of case retained.pairs x) (is_known reta
 abbrev pub place_order : Path → Path → Ordering
 place_order = slice_cmp (slice_cmp nat_cmp)
 
--- the first place comes before the second, and neither is at or above the other
+-- by how the first names compare, and where they are the same, by the rest
 abbrev pub precedes_by : Ordering → Bool → Bool
 precedes_by Less rest = true
 precedes_by Equal rest = rest
@@ -61,11 +61,11 @@ abbrev pub insert_pair : Pair → List Pair → List Pair
 insert_pair r [] = r ∷ []
 insert_pair r (q ∷ rest) = if precedes r.path q.path then r ∷ q ∷ rest else q ∷ insert_pair r rest
 
--- where the place goes, by how it compares with the first of the list
+-- d comes into the list of q and the rest: before q, in the place of q where they are the same, or into the rest
 abbrev pub insert_dir_by : Ordering → Path → Path → List Path → List Path → List Path
-insert_dir_by Less d q rest more = d ∷ q ∷ rest
-insert_dir_by Equal d q rest more = d ∷ rest
-insert_dir_by Greater d q rest more = q ∷ more
+insert_dir_by Less d q rest rest_with_d = d ∷ q ∷ rest
+insert_dir_by Equal d q rest rest_with_d = d ∷ rest
+insert_dir_by Greater d q rest rest_with_d = q ∷ rest_with_d
 
 -- the place goes to its place in the order, once
 abbrev pub insert_dir : Path → List Path → List Path
@@ -79,7 +79,7 @@ insert_dirs (d ∷ more) dirs = insert_dir d (insert_dirs more dirs)
 
 -- ---- an invalidation
 
--- the children of the place p as pairs, with other pairs in the place of the child n
+-- the children of the place p as pairs, with the inner pairs in the place of the child n
 abbrev pub pieces_beside : Case → Path → Children → Name → List Pair → List Pair
 pieces_beside case p Nothing n inner = []
 pieces_beside case p (Child name s more) n inner =
@@ -87,40 +87,40 @@ pieces_beside case p (Child name s more) n inner =
     then inner ++ pieces_beside case p more n inner
     else record { path = p ++ folded_name case name ∷ []; snapshot = s } ∷ pieces_beside case p more n inner
 
--- what of the snapshot of p stands beside the place that the names x lead to from p
+-- what is left of the snapshot of p as pairs, where the place that the names x lead to from p is invalidated: from p down, the children beside the way to it
 abbrev pub pieces : Case → Path → Snapshot → Path → List Pair
 pieces case p s [] = []
 pieces case p s (n ∷ x) = pieces_beside case p (children_of s) n (pieces case (p ++ n ∷ []) (child case (children_of s) n) x)
 
--- the places from p on, strictly above the one that the names x lead to, that the snapshot calls a directory
+-- the places from p on, strictly above the one that the names x lead to, that the snapshot of p calls directories
 abbrev pub dirs_from : Case → Path → Snapshot → Path → List Path
 dirs_from case p s [] = []
 dirs_from case p Missing (n ∷ x) = []
 dirs_from case p (File digest) (n ∷ x) = []
 dirs_from case p (Dir children) (n ∷ x) = p ∷ dirs_from case (p ++ n ∷ []) (child case children n) x
 
--- what stays of a pair
+-- what an invalidation of the place e leaves of a pair: nothing at or below e, pieces of one strictly above it, and else the pair
 abbrev pub pairs_left : Case → Path → Pair → List Pair
 pairs_left case e r =
     if is_at_or_above e r.path then []
     else if is_at_or_above r.path e then pieces case r.path r.snapshot (drop (length r.path) e)
     else r ∷ []
 
--- the directories that a pair strictly above the event leaves
+-- the directories that become known when a pair strictly above the place e goes
 abbrev pub dirs_left : Case → Path → Pair → List Path
 dirs_left case e r = if is_at_or_above r.path e then dirs_from case r.path r.snapshot (drop (length r.path) e) else []
 
--- what stays of all pairs
+-- what it leaves of all pairs
 abbrev pub all_pairs_left : Case → Path → List Pair → List Pair
 all_pairs_left case e [] = []
 all_pairs_left case e (r ∷ pairs) = pairs_left case e r ++ all_pairs_left case e pairs
 
--- what stays of the known directories, with those that pairs leave
+-- the known directories that are not at or below e, with those that the pairs strictly above e leave
 abbrev pub all_dirs_left : Case → Path → List Pair → List Path → List Path
 all_dirs_left case e [] dirs = filter (λ d. not (is_at_or_above e d)) dirs
 all_dirs_left case e (r ∷ pairs) dirs = insert_dirs (dirs_left case e r) (all_dirs_left case e pairs dirs)
 
--- what is retained after an invalidation of the place
+-- what is retained after an invalidation of the place e
 abbrev pub after_invalidation : Case → Path → Retained → Retained
 after_invalidation case e retained = record {
   pairs = all_pairs_left case e retained.pairs;
@@ -133,18 +133,18 @@ after_invalidation case e retained = record {
 abbrev pub is_covered : List Pair → Path → Bool
 is_covered pairs p = list_any (λ (r : Pair). is_at_or_above r.path p && not (is_at_or_above p r.path)) pairs
 
--- the places strictly above one
+-- the places strictly above the place, from the root down
 abbrev pub ancestors : Path → List Path
 ancestors [] = []
 ancestors (n ∷ x) = [] ∷ map (λ d. n ∷ d) (ancestors x)
 
--- the directories that a snapshot of p makes known: those strictly above it, where it is not missing
+-- the directories that a snapshot of p makes known: the places strictly above p, where it is not missing
 abbrev pub known_above : Path → Snapshot → List Path
 known_above p Missing = []
 known_above p (File digest) = ancestors p
 known_above p (Dir children) = ancestors p
 
--- what is retained after a store of the snapshot at p; below a pair nothing changes
+-- what is retained after a store of the snapshot at p: nothing changes where a pair stands strictly above; else what is at or below p goes, and the pair and the directories above it come
 abbrev pub after_store : Path → Snapshot → Retained → Retained
 after_store p s retained =
     if is_covered retained.pairs p then retained
@@ -167,7 +167,7 @@ ArePlacesInOrder (d ∷ dirs) = Each (λ q. place_order d q ≡ Less) dirs × Ar
 abbrev pub IsUncovered : List Pair → Path → Type 0
 IsUncovered pairs d = Each (λ (r : Pair). is_at_or_above r.path d ≡ false) pairs
 
--- pairs in line, snapshots that are trees, directories in order and none at or below a pair
+-- the pairs are in line, their snapshots are trees, and the known directories are in order, none of them at or below a pair
 pub record IsInShape (case : Case) (retained : Retained) : Type 0 where
   pub pairs : AreInLine retained.pairs
   pub trees : Each (λ (r : Pair). IsTree case r.snapshot) retained.pairs

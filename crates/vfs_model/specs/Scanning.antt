@@ -8,107 +8,110 @@ use Rattle.vfs_model.specs.Paths.{Name, Path, Case, folded_name, place, is_same_
 use Rattle.vfs_model.specs.World.{World, Entry, Node, Directory, Regular, at, names, Status, IsMissing, IsFile, IsDir, digest_of_bytes, AreInOrder, listed_in, status_of, spelling_of}
 use Rattle.vfs_model.specs.Snapshot.{Snapshot, Missing, File, Dir, Children, Nothing, Child}
 
--- what a look at a location gives
+-- what a look at a location gives: nothing is there, a file with its bytes, or a directory with the names in it
 pub data Look : Type 0 where
   SeesNothing : Look
   SeesFile : (bytes : List ℕ) → Look
   SeesDir : (names : List Name) → Look
 
--- what a look at it gives, with the names in it
+-- what a look at what stands there gives; a directory tells the names in it
 abbrev pub look_of_node : Node → List Name → Look
-look_of_node Directory names = SeesDir names
-look_of_node (Regular bytes) names = SeesFile bytes
+look_of_node Directory ns = SeesDir ns
+look_of_node (Regular bytes) ns = SeesFile bytes
 
 -- what a look at an entry gives, or at nothing
 abbrev pub look_of : Option Entry → List Name → Look
-look_of None names = SeesNothing
-look_of (Some e) names = look_of_node e.node names
+look_of None ns = SeesNothing
+look_of (Some e) ns = look_of_node e.node ns
 
 -- what a look at the place gives in the world
 abbrev pub look : Case → World → Path → Look
 look case world x = look_of (at case world x) (names case world x)
 
 mutual
-  -- a location that is unread, was missing, was a file, or was a directory with its kids
+  -- what a scan in progress has of a location: it is not read yet, was missing, was a file, or was a directory with its children
   pub data PartialSnapshot : Type 0 where
     Unread : PartialSnapshot
     NotThere : PartialSnapshot
     FileRead : (bytes : List ℕ) → PartialSnapshot
     DirRead : PartialChildren → PartialSnapshot
 
-  -- the names that a directory listed, each with what was read there
+  -- the names that a directory listed, each with what the scan has of it
   pub data PartialChildren : Type 0 where
     NoChildren : PartialChildren
     PartialChild : (name : Name) → PartialSnapshot → PartialChildren → PartialChildren
 
--- all of these names, with nothing read
+-- a child for each of the names, not read yet
 abbrev pub unread : List Name → PartialChildren
 unread [] = NoChildren
 unread (n ∷ ns) = PartialChild n Unread (unread ns)
 
--- a location after the look at it
+-- what the scan has of a location after the look at it
 abbrev pub partial_of_look : Look → PartialSnapshot
 partial_of_look SeesNothing = NotThere
 partial_of_look (SeesFile bytes) = FileRead bytes
 partial_of_look (SeesDir names) = DirRead (unread names)
 
--- how many locations are left
+-- how many locations are left to be read
 abbrev mutual
   pub count_left : PartialSnapshot → ℕ
   count_left Unread = 1
   count_left NotThere = 0
   count_left (FileRead bytes) = 0
-  count_left (DirRead partials) = count_left_in partials
+  count_left (DirRead below) = count_left_in below
 
   pub count_left_in : PartialChildren → ℕ
   count_left_in NoChildren = 0
   count_left_in (PartialChild name s more) = count_left s + count_left_in more
 
--- the names below the scan's path that lead to the first location left
+-- the path one name longer, where there is one; else the other
 abbrev pub below_or : Name → Option Path → Option Path → Option Path
 below_or name (Some x) other = Some (name ∷ x)
 below_or name None other = other
 
+-- the names below the scan's path that lead to the first location left, depth first in name order
 abbrev mutual
   pub next_left : PartialSnapshot → Option Path
   next_left Unread = Some []
   next_left NotThere = None
   next_left (FileRead bytes) = None
-  next_left (DirRead partials) = next_left_in partials
+  next_left (DirRead below) = next_left_in below
 
   pub next_left_in : PartialChildren → Option Path
   next_left_in NoChildren = None
   next_left_in (PartialChild name s more) = below_or name (next_left s) (next_left_in more)
 
--- the first location left is read
+-- the look goes to the first child where a location is left in it, and else to the other children
 abbrev pub after_first_look : Option Path → Name → PartialSnapshot → PartialSnapshot → PartialChildren → PartialChildren → PartialChildren
-after_first_look (Some x) name s filled more more_filled = PartialChild name filled more
-after_first_look None name s filled more more_filled = PartialChild name s more_filled
+after_first_look (Some x) name s s_read more more_read = PartialChild name s_read more
+after_first_look None name s s_read more more_read = PartialChild name s more_read
 
+-- what the scan has after a look at the first location left; where none is left it stays
 abbrev mutual
   pub after_look : Look → PartialSnapshot → PartialSnapshot
   after_look l Unread = partial_of_look l
   after_look l NotThere = NotThere
   after_look l (FileRead bytes) = FileRead bytes
-  after_look l (DirRead partials) = DirRead (after_look_in l partials)
+  after_look l (DirRead below) = DirRead (after_look_in l below)
 
   pub after_look_in : Look → PartialChildren → PartialChildren
   after_look_in l NoChildren = NoChildren
   after_look_in l (PartialChild name s more) = after_first_look (next_left s) name s (after_look l s) more (after_look_in l more)
 
--- the snapshot of what was read; children seen missing are left out
+-- the children with one more in front of them, unless it is unread or was seen missing
 abbrev pub with_child : Name → PartialSnapshot → Snapshot → Children → Children
 with_child name Unread s more = more
 with_child name NotThere s more = more
 with_child name (FileRead bytes) s more = Child name s more
-with_child name (DirRead partials) s more = Child name s more
+with_child name (DirRead below) s more = Child name s more
 
+-- the snapshot of what was read; children seen missing are left out
 abbrev mutual
   pub snapshot_made : PartialSnapshot → Snapshot
   snapshot_made Unread = Missing
   snapshot_made NotThere = Missing
   snapshot_made (FileRead bytes) = File (digest_of_bytes bytes)
-  snapshot_made (DirRead partials) = Dir (children_made partials)
+  snapshot_made (DirRead below) = Dir (children_made below)
 
   pub children_made : PartialChildren → Children
   children_made NoChildren = Nothing
@@ -116,48 +119,48 @@ abbrev mutual
 
 -- ---- what a scan in progress says
 
--- the kid whose folded name is n; what is not listed is not there
+-- the child whose folded name is n; what is not listed is not there
 abbrev pub partial_child : Case → PartialChildren → Name → PartialSnapshot
 partial_child case NoChildren n = NotThere
 partial_child case (PartialChild name s more) n = if is_same_name (folded_name case name) n then s else partial_child case more n
 
--- how the kid n is spelled, where it is listed
+-- how the name n is spelled where it is listed
 abbrev pub partial_child_name : Case → PartialChildren → Name → Option Name
 partial_child_name case NoChildren n = None
 partial_child_name case (PartialChild name s more) n = if is_same_name (folded_name case name) n then Some name else partial_child_name case more n
 
--- what is said of the name n below the sketch
+-- what the scan says of the name n below the location; nothing is there below a file and below what was missing
 abbrev pub partial_at_name : Case → PartialSnapshot → Name → PartialSnapshot
 partial_at_name case Unread n = Unread
 partial_at_name case NotThere n = NotThere
 partial_at_name case (FileRead bytes) n = NotThere
-partial_at_name case (DirRead partials) n = partial_child case partials n
+partial_at_name case (DirRead below) n = partial_child case below n
 
--- what is said of the names x below the sketch
+-- what the scan says of the names x below its path
 abbrev pub partial_at : Case → PartialSnapshot → Path → PartialSnapshot
 partial_at case s [] = s
 partial_at case s (n ∷ x) = partial_at case (partial_at_name case s n) x
 
--- the kind that is decided, and a file's digest; None where nothing is decided
+-- the status that is decided, and None where the location is not read yet
 abbrev pub decided_status : PartialSnapshot → Option Status
 decided_status Unread = None
 decided_status NotThere = Some IsMissing
 decided_status (FileRead bytes) = Some (IsFile (digest_of_bytes bytes))
-decided_status (DirRead partials) = Some IsDir
+decided_status (DirRead below) = Some IsDir
 
--- the spelling of a name that is listed, and not seen missing
+-- the spelling, unless the location was seen missing
 abbrev pub unless_missing : PartialSnapshot → Option Name → Option Name
 unless_missing Unread name = name
 unless_missing NotThere name = None
 unless_missing (FileRead bytes) name = name
-unless_missing (DirRead partials) name = name
+unless_missing (DirRead below) name = name
 
--- the kids; what is no directory has none
+-- the children; what was not read as a directory has none
 abbrev pub partial_children : PartialSnapshot → PartialChildren
 partial_children Unread = NoChildren
 partial_children NotThere = NoChildren
 partial_children (FileRead bytes) = NoChildren
-partial_children (DirRead partials) = partials
+partial_children (DirRead below) = below
 
 -- how the last of the names x is spelled, where it is listed and was not seen missing
 abbrev pub told_partial_name : Case → PartialSnapshot → Path → Option Name
@@ -165,78 +168,78 @@ told_partial_name case s [] = None
 told_partial_name case s (n ∷ []) = unless_missing (partial_at_name case s n) (partial_child_name case (partial_children s) n)
 told_partial_name case s (n ∷ m ∷ x) = told_partial_name case (partial_at_name case s n) (m ∷ x)
 
--- the names of the kids, in their order
+-- the names of the children, in their order
 abbrev pub partial_names : PartialChildren → List Name
 partial_names NoChildren = []
 partial_names (PartialChild name s more) = name ∷ partial_names more
 
 -- the names are in order, and there are at most 4,096
-pub record IsListed (case : Case) (names : List Name) : Type 0 where
-  pub order : AreInOrder case names
-  pub few : length names ≤ 4096
+pub record IsListed (case : Case) (ns : List Name) : Type 0 where
+  pub order : AreInOrder case ns
+  pub few : length ns ≤ 4096
 
--- so are the names of each directory that was read
+-- in each directory that was read the names are in order, and there are at most 4,096
 abbrev pub IsPartialTree : Case → PartialSnapshot → Type 0
 IsPartialTree case s = (x : Path) → IsListed case (partial_names (partial_children (partial_at case s x)))
 
--- a directory so many names below the root, and at 64 names, has no names in it
+-- the scan's path has so many names, and no names are listed at a location that has 64
 abbrev pub IsShallow : Case → ℕ → PartialSnapshot → Type 0
 IsShallow case depth s = (x : Path) → 64 ≤ depth + length x → partial_names (partial_children (partial_at case s x)) ≡ []
 
--- what a scan of p in progress says of the names x below it is so in the world
+-- what a scan of p in progress says of the names x below it is so in the world: the status that it decided, and how a listed name is spelled
 pub record Tells (case : Case) (world : World) (p : Path) (s : PartialSnapshot) (x : Path) : Type 0 where
   pub kind : (g : Status) → decided_status (partial_at case s x) ≡ Some g → g ≡ status_of (at case world (p ++ x))
   pub spelling : (n : Name) → told_partial_name case s x ≡ Some n → spelling_of (at case world (p ++ x)) ≡ Some n
 
 -- ---- the scan
 
--- a scan in progress
+-- a scan in progress: its path, how many places were invalidated before its begin, and what it has
 pub record Scan : Type 0 where
   pub path : Path
-  -- how many invalidations there were at its begin
   pub begun_at : ℕ
   pub partial : PartialSnapshot
 
--- a place that has to do with the scan's was invalidated since its begin
+-- a place related to the scan's was invalidated since its begin
 abbrev pub is_overtaken : Case → List Path → Scan → Bool
 is_overtaken case past scan = list_any (λ e. is_related e (place case scan.path)) (drop scan.begun_at past)
 
--- ---- the contents of the files that were read, in order
+-- ---- contents, and the order of reading
 
+-- the contents of the files that were read, depth first in name order
 abbrev mutual
   pub contents : PartialSnapshot → List (List ℕ)
   contents Unread = []
   contents NotThere = []
   contents (FileRead bytes) = bytes ∷ []
-  contents (DirRead partials) = contents_in partials
+  contents (DirRead below) = contents_in below
 
   pub contents_in : PartialChildren → List (List ℕ)
   contents_in NoChildren = []
   contents_in (PartialChild name s more) = contents s ++ contents_in more
 
--- none of the kids was read
+-- none of the children is read yet
 abbrev pub AreUnread : PartialChildren → Type 0
 AreUnread NoChildren = Unit {0}
 AreUnread (PartialChild name s more) = (s ≡ Unread) × AreUnread more
 
--- where something is left before them, the kids are unread
+-- where something is left before these children, none of them is read yet; else the rest holds
 abbrev pub IsBehind : Option Path → PartialChildren → Type 0 → Type 0
 IsBehind None more rest = rest
 IsBehind (Some y) more rest = AreUnread more
 
--- behind the first location left nothing is read
+-- nothing behind the first location left is read yet
 abbrev mutual
   pub IsFront : PartialSnapshot → Type 0
   IsFront Unread = Unit {0}
   IsFront NotThere = Unit {0}
   IsFront (FileRead bytes) = Unit {0}
-  IsFront (DirRead partials) = AreFront partials
+  IsFront (DirRead below) = AreFront below
 
   pub AreFront : PartialChildren → Type 0
   AreFront NoChildren = Unit {0}
   AreFront (PartialChild name s more) = IsFront s × IsBehind (next_left s) more (AreFront more)
 
--- ---- a scan as two lists
+-- ---- a scan as two lists: what was read, and what is left
 
 -- a location that was read, by its names below the scan's path, and what was seen there
 pub record Reading : Type 0 where
@@ -256,13 +259,13 @@ first_walk = record { read = []; left = [] ∷ [] }
 abbrev pub names_seen : Look → List Name
 names_seen SeesNothing = []
 names_seen (SeesFile bytes) = []
-names_seen (SeesDir names) = names
+names_seen (SeesDir ns) = ns
 
 -- the children of the location y with these names
 abbrev pub children_at : Path → List Name → List Path
-children_at y names = map (λ n. y ++ n ∷ []) names
+children_at y ns = map (λ n. y ++ n ∷ []) ns
 
--- the first location left is read, and the children of a directory come in front of what is left
+-- the first location left goes, with what was seen there, to the end of what was read, and the children of a directory come in front of what is left
 abbrev pub read_first : Look → List Reading → List Path → Walk
 read_first l read [] = record { read = read; left = [] }
 read_first l read (y ∷ left) = record { read = read ++ record { names = y; look = l } ∷ []; left = children_at y (names_seen l) ++ left }
@@ -276,32 +279,32 @@ abbrev pub walk_after : Walk → List Look → Walk
 walk_after w [] = w
 walk_after w (l ∷ looks) = walk_after (walk_with l w) looks
 
--- the sketch after these looks, each at the first location left
+-- what a scan has after these looks, each at the first location left
 abbrev pub after_looks : PartialSnapshot → List Look → PartialSnapshot
 after_looks s [] = s
 after_looks s (l ∷ looks) = after_looks (after_look l s) looks
 
 -- the looks, in the order of reading
 abbrev pub looks_of : List Reading → List Look
-looks_of readings = map (λ (r : Reading). r.look) readings
+looks_of read = map (λ (r : Reading). r.look) read
 
 -- a reading, seen from one name above
 abbrev pub reading_below : Name → Reading → Reading
 reading_below name r = record { names = name ∷ r.names; look = r.look }
 
--- what a sketch has read, depth first in name order
+-- what was read, depth first in name order
 abbrev mutual
   pub readings : PartialSnapshot → List Reading
   readings Unread = []
   readings NotThere = record { names = []; look = SeesNothing } ∷ []
   readings (FileRead bytes) = record { names = []; look = SeesFile bytes } ∷ []
-  readings (DirRead partials) = record { names = []; look = SeesDir (partial_names partials) } ∷ readings_in partials
+  readings (DirRead below) = record { names = []; look = SeesDir (partial_names below) } ∷ readings_in below
 
   pub readings_in : PartialChildren → List Reading
   readings_in NoChildren = []
   readings_in (PartialChild name s more) = map (reading_below name) (readings s) ++ readings_in more
 
--- what was seen at the place, where it was read
+-- what was seen at the names, where they were read
 abbrev pub reading_at : Case → List Reading → Path → Option Look
 reading_at case [] x = None
 reading_at case (r ∷ more) x = if is_same_place (place case r.names) x then Some r.look else reading_at case more x
@@ -310,7 +313,7 @@ reading_at case (r ∷ more) x = if is_same_place (place case r.names) x then So
 abbrev pub status_seen : Look → Status
 status_seen SeesNothing = IsMissing
 status_seen (SeesFile bytes) = IsFile (digest_of_bytes bytes)
-status_seen (SeesDir names) = IsDir
+status_seen (SeesDir ns) = IsDir
 
 -- the walk goes on below a name that is listed, and ends at one that is not
 abbrev pub decided_status_below : Option Name → Option Status → Option Status
@@ -322,30 +325,30 @@ abbrev pub decided_status_in : Case → Option Look → Name → Option Status �
 decided_status_in case None n deeper = None
 decided_status_in case (Some SeesNothing) n deeper = Some IsMissing
 decided_status_in case (Some (SeesFile bytes)) n deeper = Some IsMissing
-decided_status_in case (Some (SeesDir names)) n deeper = decided_status_below (listed_in case names n) deeper
+decided_status_in case (Some (SeesDir ns)) n deeper = decided_status_below (listed_in case ns n) deeper
 
 -- what the readings decide of the names x below the place p: what was seen there, or that the walk there ends at nothing, at a file or at a name that is not listed
 abbrev pub decided_status_by : Case → List Reading → Path → Path → Option Status
 decided_status_by case read p [] = option_map status_seen (reading_at case read p)
 decided_status_by case read p (n ∷ x) = decided_status_in case (reading_at case read p) n (decided_status_by case read (p ++ n ∷ []) x)
 
--- what a sketch has left, depth first in name order
+-- what is left, depth first in name order
 abbrev mutual
   pub locations_left : PartialSnapshot → List Path
   locations_left Unread = [] ∷ []
   locations_left NotThere = []
   locations_left (FileRead bytes) = []
-  locations_left (DirRead partials) = locations_left_in partials
+  locations_left (DirRead below) = locations_left_in below
 
   pub locations_left_in : PartialChildren → List Path
   locations_left_in NoChildren = []
   locations_left_in (PartialChild name s more) = map (λ x. name ∷ x) (locations_left s) ++ locations_left_in more
 
--- the two lists of a sketch
+-- the two lists of what a scan has
 abbrev pub walk_of : PartialSnapshot → Walk
 walk_of s = record { read = readings s; left = locations_left s }
 
--- the first of the list
+-- the first of the list, where there is one
 abbrev pub first_of : List Path → Option Path
 first_of [] = None
 first_of (y ∷ left) = Some y

@@ -4,13 +4,13 @@ use Rattle.vfs_model.specs.Paths.{Name, Path, Case, folded_name, is_same_name}
 use Rattle.vfs_model.specs.World.{Status, IsMissing, IsFile, IsDir, AreInOrder}
 
 mutual
-  -- nothing, a file with its digest, or a directory
+  -- nothing is there, a file with its digest, or a directory with its children
   pub data Snapshot : Type 0 where
     Missing : Snapshot
     File : (digest : List ℕ) → Snapshot
     Dir : Children → Snapshot
 
-  -- the names of a directory, each with its snapshot
+  -- the names in a directory, each with its snapshot
   pub data Children : Type 0 where
     Nothing : Children
     Child : (name : Name) → Snapshot → Children → Children
@@ -31,12 +31,12 @@ children_of Missing = Nothing
 children_of (File digest) = Nothing
 children_of (Dir children) = children
 
--- what the snapshot says of the names x below it
+-- what the snapshot says of the names x below it: missing below a file, below what is missing and at a name that is not listed
 abbrev pub sub : Case → Snapshot → Path → Snapshot
 sub case s [] = s
 sub case s (n ∷ x) = sub case (child case (children_of s) n) x
 
--- how the last one of the names x below it is spelled, where the snapshot lists it
+-- how the last of the names x below it is spelled, where the snapshot lists it
 abbrev pub told_name : Case → Snapshot → Path → Option Name
 told_name case s [] = None
 told_name case s (n ∷ []) = listed_name case (children_of s) n

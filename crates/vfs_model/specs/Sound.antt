@@ -11,26 +11,26 @@ use Rattle.vfs_model.specs.Scanning.{Scan, PartialSnapshot, Unread, NotThere, Fi
 use Rattle.vfs_model.specs.Fingerprint.{Input, Seen, fingerprint}
 use Rattle.vfs_model.specs.State.{KeptPrint, State, Call, CallRead, Answers, scan_of}
 
--- where what is known may differ from the world: an event waits there
+-- where what is known in the state may differ from the world: the mark is set, or an event at or above the place waits
 abbrev pub is_hit_in : State → Path → Bool
 is_hit_in s = is_hit s.case s.pending
 
--- the snapshot of p agrees with the world at each place at or below p, or the place is excused
+-- the snapshot agrees with the world at each place at or below its own, unless the place is excused
 abbrev pub IsCurrent : Case → (Path → Bool) → World → Pair → Type 0
 IsCurrent case excused world r = (x : Path) → excused (r.path ++ x) ≡ false → Agrees case world r.path r.snapshot x
 
--- the place is a directory, or it is excused
+-- the place is a directory in the world, unless it is excused
 abbrev pub IsStillDir : Case → (Path → Bool) → World → Path → Type 0
 IsStillDir case excused world d = excused d ≡ false → status_of (at case world d) ≡ IsDir
 
--- the places strictly above the scan's, where its own was seen and was not missing
+-- the places strictly above p, where p itself was seen and was not missing
 abbrev pub above_scan : Path → PartialSnapshot → List Path
 above_scan p Unread = []
 above_scan p NotThere = []
 above_scan p (FileRead bytes) = ancestors p
 above_scan p (DirRead partials) = ancestors p
 
--- what a scan of p in progress says is so where it is not excused, and so it is above p; nothing is asked of one that is overtaken
+-- what was read is in shape; and unless the scan of p is overtaken, what it says is so wherever it is not excused, and the places above p are directories
 pub record IsTelling (case : Case) (excused : Path → Bool) (world : World) (overtaken : Bool) (p : Path) (t : PartialSnapshot) : Type 0 where
   pub partial : IsPartialTree case t
   pub shallow : IsShallow case (length p) t
@@ -38,13 +38,13 @@ pub record IsTelling (case : Case) (excused : Path → Bool) (world : World) (ov
   pub tells : overtaken ≡ false → (x : Path) → excused (p ++ x) ≡ false → Tells case world p t x
   pub above : overtaken ≡ false → Each (IsStillDir case excused world) (above_scan p t)
 
--- a scan in progress says what is so, unless it is overtaken
+-- a scan in progress: its begin lies within what was invalidated so far, and it says what is so, unless it is overtaken
 pub record IsTrueScan (case : Case) (excused : Path → Bool) (world : World) (past : List Path) (s : Scan) : Type 0 where
   pub begun_at : s.begun_at ≤ length past
   pub telling : IsTelling case excused world (is_overtaken case past s) (place case s.path) s.partial
   pub open telling use *
 
--- a closed scan says nothing
+-- nothing is asked of a closed scan
 abbrev pub IsTrueSlot : Case → (Path → Bool) → World → List Path → Option Scan → Type 0
 IsTrueSlot case excused world past None = Unit {0}
 IsTrueSlot case excused world past (Some s) = IsTrueScan case excused world past s
@@ -73,7 +73,7 @@ pub record IsInLimits (s : State) : Type 0 where
   pub room : s.pending.capacity ≤ 65536
   pub events : length s.pending.events ≤ s.pending.capacity
 
--- the world and the lists are in shape, and all that is known is so in the world but where an event waits
+-- the world and the lists are in shape, and all that is known is so in the world, but where an event waits or the mark is set
 pub record IsTrue (s : State) : Type 0 where
   pub world : IsWorld s.case s.world
   pub shape : IsInShape s.case s.retained
@@ -90,34 +90,34 @@ pub record IsSound (s : State) : Type 0 where
 
 -- ---- what holds without a world
 
--- the names that a look lists are in order, at most 4,096, and none at so many names below the root as a path may have
+-- the names that a look lists are in order, at most 4,096, and none where the location has 64 names
 pub record IsLook (case : Case) (depth : ℕ) (l : Look) : Type 0 where
   pub listed : IsListed case (names_seen l)
   pub shallow : 64 ≤ depth → names_seen l ≡ []
 
--- the look at the first location left, where there is one and it did not fail, is a look
+-- the names that the look at the location y below p lists are so; nothing is asked where none is left, and where the look failed
 abbrev pub IsLookBelow : Case → Path → Option Path → Option Look → Type 0
 IsLookBelow case p None l = Unit {0}
 IsLookBelow case p (Some y) None = Unit {0}
 IsLookBelow case p (Some y) (Some l) = IsLook case (length p + length y) l
 
--- the same of the scan, where it is in progress
+-- the same of the first location left of the scan, where it is in progress
 abbrev pub IsLookOf : Case → Option Scan → Option Look → Type 0
 IsLookOf case None l = Unit {0}
 IsLookOf case (Some scan) l = IsLookBelow case scan.path (next_left scan.partial) l
 
--- what the tree answers to a look is a look
+-- what the tree answers to the look of a read lists names as a look does
 abbrev pub AreLooks : State → Call → Answers → Type 0
 AreLooks s (CallRead c) a = IsLookOf s.case (scan_of s c) a.look
 AreLooks s _ a = Unit {0}
 
--- what was read is listed as looks list it, from the front on
+-- in what was read the names are in order and few, none is listed at 64 names, and nothing behind the first location left is read yet
 pub record IsShapedScan (case : Case) (s : Scan) : Type 0 where
   pub partial : IsPartialTree case s.partial
   pub shallow : IsShallow case (length s.path) s.partial
   pub front : IsFront s.partial
 
--- a closed scan is in shape
+-- a scan in progress is in shape; nothing is asked of a closed one
 abbrev pub IsShapedSlot : Case → Option Scan → Type 0
 IsShapedSlot case None = Unit {0}
 IsShapedSlot case (Some s) = IsShapedScan case s
@@ -134,7 +134,7 @@ pub record IsShaped (s : State) : Type 0 where
   pub scans : Each (IsShapedSlot s.case) s.scans
   pub kept : Each (IsShapedPrint s.case) s.kept
 
--- no event waits, and none was lost
+-- no event waits, and the mark is clear
 pub record IsSettled (s : State) : Type 0 where
   pub events : s.pending.events ≡ []
   pub mark : s.pending.mark ≡ false
@@ -151,7 +151,7 @@ fingerprint_of case world inputs = fingerprint case (map (scanned_input case wor
 abbrev pub inputs_of : KeptPrint → List Input
 inputs_of k = map (λ (v : Seen). v.input) k.seen
 
--- what is known is what a scan of the world gives
+-- what is known is what a scan of the world gives: the snapshots, the known directories and the kept fingerprints
 pub record IsScanned (s : State) : Type 0 where
   pub pairs : Each (λ (r : Pair). r.snapshot ≡ scan s.case s.world r.path) s.retained.pairs
   pub dirs : Each (λ d. status_of (at s.case s.world d) ≡ IsDir) s.retained.dirs

@@ -9,7 +9,7 @@ use Rattle.vfs_model.specs.Scanning.{PartialSnapshot, Scan}
 use Rattle.vfs_model.specs.State.{State, KeptPrint}
 use Rattle.vfs_model.specs.Sound.{IsCurrent, IsStillDir, IsTelling, IsTrueKept, IsSound, IsShaped}
 
--- the versions are those of this list of invalidated places
+-- the versions are those of this list of invalidated places, and the count is its length
 pub record StandsFor (at : Path → ℕ) (count : ℕ) (past : List Path) : Type 0 where
   pub versions : (x : Path) → at x ≡ version past x
   pub number : count ≡ length past
@@ -20,7 +20,7 @@ pub record RunningScan : Type 0 where
   pub seen : ℕ
   pub partial : PartialSnapshot
 
--- what a machine keeps; the content is None where the tree does not tell it, and V is its type of versions
+-- what a machine keeps; the content is that of its tree, None where the tree does not tell it, and V is its type of versions
 pub record Parts (V : Type 0) : Type 0 where
   pub case : Case
   pub content : Option World
@@ -32,14 +32,14 @@ pub record Parts (V : Type 0) : Type 0 where
   pub scans : List (Option RunningScan)
   pub kept : List KeptPrint
 
--- the scan began when this many places were invalidated
+-- the two are one scan: the same path and partial snapshot, and what the one saw at its begin is the version of the path in what was invalidated before the begin of the other
 pub record IsScanOf (case : Case) (past : List Path) (r : RunningScan) (s : Scan) : Type 0 where
   pub path : s.path ≡ r.path
   pub partial : s.partial ≡ r.partial
   pub begun_at : s.begun_at ≤ length past
   pub seen : r.seen ≡ version (take s.begun_at past) (place case r.path)
 
--- both are closed, or the one is the scan of the other
+-- both are closed, or the two are one scan
 abbrev pub IsSlotOf : Case → List Path → Option RunningScan → Option Scan → Type 0
 IsSlotOf case past None None = Unit {0}
 IsSlotOf case past None (Some s) = ⊥
@@ -53,7 +53,7 @@ AreSlotsOf case past [] (s ∷ scans) = ⊥
 AreSlotsOf case past (r ∷ slots) [] = ⊥
 AreSlotsOf case past (r ∷ slots) (s ∷ scans) = IsSlotOf case past r s × AreSlotsOf case past slots scans
 
--- what the machine keeps is that of the state; a world that is not told is not compared
+-- the machine stands for the state: what it keeps is what the state has, its versions are those of the invalidated places, and its content, where it is told, is the state's world in any order
 pub record Stands {V : Type 0} (at : V → Path → ℕ) (count : V → ℕ) (m : Parts V) (s : State) : Type 0 where
   pub case : s.case ≡ m.case
   pub world : (w : World) → m.content ≡ Some w → IsSameBelow m.case s.world [] w []
@@ -63,7 +63,7 @@ pub record Stands {V : Type 0} (at : V → Path → ℕ) (count : V → ℕ) (m 
   pub scans : AreSlotsOf m.case s.past m.scans s.scans
   pub kept : s.kept ≡ m.kept
 
--- the machine stands for a sound state; where its tree tells no content, for one in shape
+-- the machine stands for a state in shape, and where its tree tells the content, for a sound one
 pub record HasSound {V : Type 0} (at : V → Path → ℕ) (count : V → ℕ) (m : Parts V) : Type 0 where
   pub state : State
   pub stands : Stands at count m state
@@ -81,7 +81,7 @@ abbrev pub IsTrueRunning : (Path → ℕ) → Case → (Path → Bool) → World
 IsTrueRunning at case excused world None = Unit {0}
 IsTrueRunning at case excused world (Some r) = IsTelling case excused world (has_grown at case r) (place case r.path) r.partial
 
--- what a machine knows is true of the world, but where an event waits
+-- what a machine knows is true of the world, but where an event waits or the mark is set
 pub record KnowsTruth {V : Type 0} (at : V → Path → ℕ) (m : Parts V) (world : World) : Type 0 where
   pub whole : IsWorld m.case world
   pub shape : IsInShape m.case m.retained

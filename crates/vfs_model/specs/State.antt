@@ -2,7 +2,7 @@
 use Rattle.std.specs.Prelude.{◌≡◌, ℕ, Bool, true, false, ◌&&◌, not, List, [], ◌∷◌, ◌++◌, length, drop, filter, find, if◌then◌else◌, nat_lt, nat_le, Option, Some, None, slice_get, slice_set}
 use Rattle.std.specs.List.{list_any}
 use Rattle.vfs_model.specs.Paths.{Path, Case, place, is_same_place, is_related}
-use Rattle.vfs_model.specs.World.{World, names, Kind, MissingKind, FileKind, DirKind, kind_of_status}
+use Rattle.vfs_model.specs.World.{World, Kind, MissingKind, FileKind, DirKind, kind_of_status}
 use Rattle.vfs_model.specs.Edit.{Edit, Refusal, refusal, apply, events}
 use Rattle.vfs_model.specs.Pending.{Pending, has_room, put, put_all, version}
 use Rattle.vfs_model.specs.Snapshot.{Snapshot, Missing, File, Dir, status}
@@ -10,12 +10,12 @@ use Rattle.vfs_model.specs.Retained.{Pair, Retained, part_of, kind_of, after_inv
 use Rattle.vfs_model.specs.Scanning.{Scan, Unread, Look, SeesNothing, SeesFile, SeesDir, look, next_left, count_left, after_look, snapshot_made, is_overtaken}
 use Rattle.vfs_model.specs.Fingerprint.{Sensitivity, Absolute, Relative, NameOnly, Ignored, Input, Seen, digest_of, fingerprint}
 
--- a fingerprint, with the inputs and the snapshots that it is of
+-- a kept fingerprint, with the inputs and the snapshots that it is of
 pub record KeptPrint : Type 0 where
   pub seen : List Seen
   pub digest : List ℕ
 
--- all that the machine is, with the world that it looks at
+-- all that a machine keeps, with the world that it looks at
 pub record State : Type 0 where
   pub case : Case
   pub world : World
@@ -26,7 +26,7 @@ pub record State : Type 0 where
   pub scans : List (Option Scan)
   pub kept : List KeptPrint
 
--- what a caller may ask
+-- what a caller may ask; the number in a call of a scan is the scan's, and a begin has its path too
 pub data Call : Type 0 where
   CallEdit : Edit → Call
   CallEvent : Path → Call
@@ -42,7 +42,7 @@ pub data Call : Type 0 where
   CallVersion : Path → Call
   CallFingerprint : List Input → Call
 
--- a kind, and the digest that there is but for what is missing
+-- what a find tells: a kind, and a digest for all but what is missing
 pub record Glance : Type 0 where
   pub kind : Kind
   pub digest : Option (List ℕ)
@@ -53,24 +53,36 @@ pub data Reply : Type 0 where
   Done : Reply
   Overflow : Reply
   Fits : Reply
+  -- after a loss; it tells nothing
   Lost : Reply
+  -- the mark was delivered
   Cleared : Reply
+  -- the event was delivered
   Delivered : Path → Reply
   NothingPending : Reply
+  -- the scan is in progress already
   AlreadyOpen : Reply
   Version : ℕ → Reply
+  -- the scan is closed
   NoScan : Reply
+  -- no location is left to read
   AllRead : Reply
+  -- the path that was read, its kind, and how many locations are left
   Saw : Path → Kind → ℕ → Reply
+  -- so many locations are left
   Unfinished : ℕ → Reply
+  -- the scan is overtaken; the version of its path
   Stale : ℕ → Reply
+  -- a pair stands strictly above the scan's path
   Covered : Reply
   Stored : Reply
+  -- whether the scan was in progress
   Dropped : Bool → Reply
   Found : Option Glance → Reply
   KindIs : Option Kind → Reply
   Part : Option Snapshot → Reply
   Is : List ℕ → Reply
+  -- the first input, from 0, whose root is not known
   Unknown : ℕ → Reply
   -- the look of a read failed
   Fault : Reply
@@ -99,7 +111,7 @@ pub record Answers : Type 0 where
 
 -- ---- edits and events
 
--- each of the events fits when its turn comes
+-- each of the events fits in the queue when its turn comes
 abbrev pub all_fit : List Path → Pending → Bool
 all_fit [] p = true
 all_fit (e ∷ more) p = has_room p && all_fit more (put e p)
@@ -110,7 +122,7 @@ after_edit s edit told = record s { world = apply s.case s.world edit; pending =
 
 -- the outcome of an edit, by what the tree answers
 abbrev pub edit_by : State → Edit → EditAnswer → Outcome
-edit_by s edit (Refuses refusal) = no_change s (Refused refusal)
+edit_by s edit (Refuses cause) = no_change s (Refused cause)
 edit_by s edit (Does told) = record { reply = if all_fit told s.pending then Done else Overflow; state = after_edit s edit told }
 
 -- the event goes into the queue
@@ -123,7 +135,7 @@ after_loss s = record s { pending = record { events = []; capacity = s.pending.c
 
 -- ---- deliveries
 
--- the mark is delivered: the root is invalidated, and nothing is retained or kept
+-- the mark is delivered: it goes, the root is invalidated, and nothing is retained or kept any more
 abbrev pub after_clear : State → State
 after_clear s = record s {
   pending = record { events = s.pending.events; capacity = s.pending.capacity; mark = false };
@@ -132,11 +144,11 @@ after_clear s = record s {
   kept = [];
 }
 
--- some root of the fingerprint has to do with the place
+-- some root of the kept fingerprint is related to the place
 abbrev pub is_touched : Case → Path → KeptPrint → Bool
 is_touched case e k = list_any (λ (v : Seen). is_related e (place case v.input.root)) k.seen
 
--- the first event is delivered: its place is invalidated, and the prints with a related root go
+-- the first event is delivered: it leaves the queue, its place is invalidated, and the kept fingerprints with a root related to it go
 abbrev pub after_delivery : State → Path → List Path → State
 after_delivery s e rest = record s {
   pending = record { events = rest; capacity = s.pending.capacity; mark = s.pending.mark };
@@ -145,23 +157,23 @@ after_delivery s e rest = record s {
   kept = filter (λ k. not (is_touched s.case (place s.case e) k)) s.kept;
 }
 
--- the outcome where no mark is set
+-- the outcome of a delivery where the mark is clear, by the events that wait
 abbrev pub deliver_first : State → List Path → Outcome
 deliver_first s [] = no_change s NothingPending
 deliver_first s (e ∷ rest) = record { reply = Delivered e; state = after_delivery s e rest }
 
--- the outcome by whether the mark is set
+-- the outcome of a delivery, by whether the mark is set
 abbrev pub deliver_when : State → Bool → Outcome
 deliver_when s true = record { reply = Cleared; state = after_clear s }
 deliver_when s false = deliver_first s s.pending.events
 
--- the mark comes before the events
+-- the outcome of a delivery: the mark comes before the events
 abbrev pub deliver : State → Outcome
 deliver s = deliver_when s s.pending.mark
 
 -- ---- scans
 
--- a scan that is in progress, where the number is one of a scan
+-- the scan that is in progress, where there is one
 abbrev pub open_scan : Option (Option Scan) → Option Scan
 open_scan None = None
 open_scan (Some scan) = scan
@@ -170,15 +182,15 @@ open_scan (Some scan) = scan
 abbrev pub scan_of : State → ℕ → Option Scan
 scan_of s c = open_scan (slice_get s.scans c)
 
--- the scan with the number is set
+-- the state with this scan at the number, or with a closed one
 abbrev pub with_scan : State → ℕ → Option Scan → State
 with_scan s c scan = record s { scans = slice_set s.scans c scan }
 
--- a scan of p begins, with p left
+-- the state after the begin of a scan of p, with p itself left
 abbrev pub after_begin : State → ℕ → Path → State
 after_begin s c p = with_scan s c (Some (record { path = p; begun_at = length s.past; partial = Unread }))
 
--- the outcome of a begin, by whether the scan is in progress
+-- the outcome of a begin, by whether the scan is in progress: it answers the version of p
 abbrev pub begin_or : State → ℕ → Path → Option Scan → Outcome
 begin_or s c p (Some scan) = no_change s AlreadyOpen
 begin_or s c p None = record { reply = Version (version s.past (place s.case p)); state = after_begin s c p }
@@ -187,13 +199,13 @@ begin_or s c p None = record { reply = Version (version s.past (place s.case p))
 abbrev pub kind_of_look : Look → Kind
 kind_of_look SeesNothing = MissingKind
 kind_of_look (SeesFile bytes) = FileKind
-kind_of_look (SeesDir names) = DirKind
+kind_of_look (SeesDir ns) = DirKind
 
--- the look goes to the first location left
+-- the state after a read whose look gave this
 abbrev pub after_read : State → ℕ → Scan → Look → State
 after_read s c scan l = with_scan s c (Some (record { path = scan.path; begun_at = scan.begun_at; partial = after_look l scan.partial }))
 
--- by the first location left, and by what the look at it saw; None is a look that failed
+-- the outcome of a read of a scan in progress, by the first location left and by what the look at it gave; None is a look that failed
 abbrev pub read_next : State → ℕ → Scan → Option Path → Option Look → Outcome
 read_next s c scan None l = no_change s AllRead
 read_next s c scan (Some y) None = no_change s Fault
@@ -204,18 +216,18 @@ abbrev pub read_or : State → ℕ → Option Scan → Option Look → Outcome
 read_or s c None l = no_change s NoScan
 read_or s c (Some scan) l = read_next s c scan (next_left scan.partial) l
 
--- the scan is closed
+-- the state with the scan closed
 abbrev pub after_close : State → ℕ → State
 after_close s c = with_scan s c None
 
--- the scan is closed, and what it made is stored
+-- the state with the scan closed, and with the snapshot of what it read stored
 abbrev pub after_publish : State → ℕ → Scan → State
 after_publish s c scan = record s {
   scans = slice_set s.scans c None;
   retained = after_store (place s.case scan.path) (snapshot_made scan.partial) s.retained;
 }
 
--- by whether the scan is overtaken, and whether a pair stands strictly above
+-- the outcome of a publish with nothing left, by whether the scan is overtaken, and whether a pair stands strictly above its path
 abbrev pub publish_when : State → ℕ → Scan → Bool → Bool → Outcome
 publish_when s c scan true covered = record { reply = Stale (version s.past (place s.case scan.path)); state = after_close s c }
 publish_when s c scan false true = record { reply = Covered; state = after_close s c }
@@ -225,7 +237,7 @@ publish_when s c scan false false = record { reply = Stored; state = after_publi
 abbrev pub publish_done : State → ℕ → Scan → Outcome
 publish_done s c scan = publish_when s c scan (is_overtaken s.case s.past scan) (is_covered s.retained.pairs (place s.case scan.path))
 
--- the outcome of a publish, by whether something is left
+-- the outcome of a publish of a scan in progress, by the first location left
 abbrev pub publish_next : State → ℕ → Scan → Option Path → Outcome
 publish_next s c scan (Some y) = no_change s (Unfinished (count_left scan.partial))
 publish_next s c scan None = publish_done s c scan
@@ -242,7 +254,7 @@ drop_or s c (Some scan) = record { reply = Dropped true; state = after_close s c
 
 -- ---- fingerprints
 
--- the paths are taken in the same way
+-- the two take the same of a path
 abbrev pub is_same_sensitivity : Sensitivity → Sensitivity → Bool
 is_same_sensitivity Absolute Absolute = true
 is_same_sensitivity Relative Relative = true
@@ -250,7 +262,7 @@ is_same_sensitivity NameOnly NameOnly = true
 is_same_sensitivity Ignored Ignored = true
 is_same_sensitivity _ _ = false
 
--- the fingerprint is of this very list of inputs
+-- a kept fingerprint is of this very list of inputs: the same roots, spelled the same, taken in the same way
 abbrev pub is_for_inputs : List Input → List Seen → Bool
 is_for_inputs [] [] = true
 is_for_inputs [] (v ∷ seen) = false
@@ -258,7 +270,7 @@ is_for_inputs (i ∷ inputs) [] = false
 is_for_inputs (i ∷ inputs) (v ∷ seen) =
     is_same_place i.root v.input.root && is_same_sensitivity i.sensitivity v.input.sensitivity && is_for_inputs inputs seen
 
--- each input with the part at its root, up to the first root that is not known
+-- the input with the part at its root, in front of more; nothing where the root is not known
 abbrev pub seen_or : Input → Option Snapshot → List Seen → List Seen
 seen_or i None more = []
 seen_or i (Some s) more = record { input = i; snapshot = s } ∷ more
@@ -268,20 +280,20 @@ abbrev pub seen_inputs : Case → List Pair → List Input → List Seen
 seen_inputs case pairs [] = []
 seen_inputs case pairs (i ∷ more) = seen_or i (part_of case pairs (place case i.root)) (seen_inputs case pairs more)
 
--- the last 64 are kept
+-- one more is kept, last of all; where there were 64, the first goes
 abbrev pub with_kept : List KeptPrint → KeptPrint → List KeptPrint
 with_kept kept k = (if nat_le 64 (length kept) then drop 1 kept else kept) ++ k ∷ []
 
--- the fingerprint of the inputs is kept
+-- the state with the fingerprint of these inputs and snapshots kept
 abbrev pub after_fingerprint : State → List Seen → State
 after_fingerprint s seen = record s { kept = with_kept s.kept (record { seen = seen; digest = fingerprint s.case seen }) }
 
--- by whether some root is unknown
+-- the outcome of a fingerprint that is not kept, by whether some root is unknown
 abbrev pub fingerprint_when : State → List Seen → Bool → Outcome
 fingerprint_when s seen true = no_change s (Unknown (length seen))
 fingerprint_when s seen false = record { reply = Is (fingerprint s.case seen); state = after_fingerprint s seen }
 
--- the outcome of a fingerprint, by whether one of this very list is kept
+-- the outcome of a fingerprint, by the kept one of this very list, where there is one
 abbrev pub fingerprint_or : State → List Input → List Seen → Option KeptPrint → Outcome
 fingerprint_or s inputs seen (Some k) = no_change s (Is k.digest)
 fingerprint_or s inputs seen None = fingerprint_when s seen (nat_lt (length seen) (length inputs))
@@ -358,12 +370,12 @@ AreDue s (CallEdit edit) a = a.edit ≡ edit_answer s edit
 AreDue s (CallRead c) a = IsLookFor s (scan_of s c) a.look
 AreDue s _ a = Unit {0}
 
--- the answers of a tree that tells its world, and whose looks do not fail
+-- the answers of a tree that tells its world, and whose looks never fail
 abbrev pub answers : State → Call → Answers
 answers s (CallEdit edit) = record { edit = edit_answer s edit; look = None }
 answers s (CallRead c) = record { edit = Does []; look = look_due s (scan_of s c) }
 answers s _ = record { edit = Does []; look = None }
 
--- the step over a tree that tells its world
+-- the step over a tree that tells its world, and whose looks never fail
 abbrev pub told_step : State → Call → Outcome
 told_step s call = step (answers s call) s call

@@ -18,15 +18,15 @@ pub record Entry : Type 0 where
   pub path : Path
   pub node : Node
 
--- a world is a list of entries
+-- a world is a list of entries, in any order; IsWorld tells which lists are one
 abbrev pub World : Type 0
 World = List Entry
 
--- what is at the place, by the path in its own spelling; None where it is missing
+-- the entry at the place, its path in its own spelling; None where nothing is there
 abbrev pub at : Case → World → Path → Option Entry
 at case world x = find (λ (e : Entry). is_same_place (place case e.path) x) world
 
--- the MD5 of the bytes
+-- the MD5 of the bytes, as RFC 1321 has it
 unfoldable pub digest_of_bytes : List ℕ → List ℕ
 digest_of_bytes bytes = md5 bytes
 
@@ -62,23 +62,23 @@ abbrev pub spelling_of : Option Entry → Option Name
 spelling_of None = None
 spelling_of (Some e) = Some (last_name e.path)
 
--- below p in one world stands what stands below q in the other, in the same spelling; how p and q are spelled is no part of it
+-- at p and below it in the one world stands what stands at q and below it in the other, and the names below are spelled the same; how p and q are spelled is no part of it
 pub record IsSameBelow (case : Case) (v : World) (p : Path) (w : World) (q : Path) : Type 0 where
   pub nodes : (x : Path) → node_of (at case v (p ++ x)) ≡ node_of (at case w (q ++ x))
   pub names : (x : Path) (n : Name) → spelling_of (at case v (p ++ (x ++ n ∷ []))) ≡ spelling_of (at case w (q ++ (x ++ n ∷ [])))
 
--- the name goes to its place in the order, instead of the one that is the same
+-- n comes into the list of m and the rest: before m, in the place of m where they are the same, or into the rest
 abbrev pub insert_by : Ordering → Name → Name → List Name → List Name → List Name
-insert_by Less n m rest more = n ∷ m ∷ rest
-insert_by Equal n m rest more = n ∷ rest
-insert_by Greater n m rest more = m ∷ more
+insert_by Less n m rest rest_with_n = n ∷ m ∷ rest
+insert_by Equal n m rest rest_with_n = n ∷ rest
+insert_by Greater n m rest rest_with_n = m ∷ rest_with_n
 
--- the name goes to its place in the order
+-- the name goes to its place in the order, instead of one that is the same
 abbrev pub insert_name : Case → Name → List Name → List Name
 insert_name case n [] = n ∷ []
 insert_name case n (m ∷ rest) = insert_by (name_order case n m) n m rest (insert_name case n rest)
 
--- the names of the children of the place, in order
+-- the last names of the children of the place, in name order
 abbrev pub names : Case → World → Path → List Name
 names case [] x = []
 names case (e ∷ world) x =
@@ -110,7 +110,7 @@ AreDistinct case (e ∷ world) = Each (λ (f : Entry). is_same_place (place case
 abbrev pub AreFew : Case → World → Type 0
 AreFew case world = (x : Path) → length (names case world x) ≤ 4096
 
--- the root is a directory, each place stands once, only directories have children, and paths and directories are within their limits
+-- the root is a directory, each place stands once, only directories have children, no path has more than 64 names and no directory more than 4,096
 pub record IsWorld (case : Case) (world : World) : Type 0 where
   pub root : status_of (at case world []) ≡ IsDir
   pub distinct : AreDistinct case world

@@ -1,5 +1,5 @@
-use Rattle.vfs_laws.proofs.OvertakenLemmas.{own_partial-entries}
+use Rattle.vfs_laws.proofs.OvertakenLemmas.{partial-own}
 use Rattle.vfs_laws.proofs.scans_are_their_own_entries.Goals as goal
 
 pub returns : goal.returns
-returns c = own_partial-entries
+returns c = partial-own
