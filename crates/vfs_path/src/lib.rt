@@ -4,6 +4,7 @@
 mod error;
 mod name;
 mod path;
+mod text;
 
 pub use error::PathError;
 pub use name::{Name, Names};

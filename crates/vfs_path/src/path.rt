@@ -1,12 +1,16 @@
 //! Paths.
 
-ghost use Rattle.std.specs.Prelude.{◌≡◌, ◌≤◌, ◌<◌, [], length, slice_get};
+ghost use Rattle.std.specs.Prelude.{◌≡◌, ◌⊎◌, ◌≤◌, ◌<◌, [], ◌++◌, length, slice_get, IfOk, IfErr, OnOk, OnErr, Ok, Err};
 ghost use Rattle.vfs_model.specs.Paths.{place, is_at_or_above, is_related};
 ghost use Rattle.vfs_model.specs.Retained.{place_order};
-ghost use Rattle.vfs_path.specs.Texts.{IsPath};
+ghost use Rattle.vfs_path.specs.declared.error.PathError.TheVariants.{NoMemory as NoMemoryError};
+ghost use Rattle.vfs_path.specs.Texts.{IsPath, path_of, path_text};
 
+use crate::error::PathError;
 use crate::name::{Name, Names};
+use crate::text::{after_slash, has_path_bytes, names_between, write_slashed};
 use case_order::{Case, NoMemory, Share, Shared, order, same, share_all};
+use std::alloc::Global;
 use std::cmp::Ordering;
 use std::marker::Model;
 
@@ -35,6 +39,64 @@ impl Path {
         ensures { result ≡ [] }
     {
         Path { names: None }
+    }
+
+    /// The path with this text.
+    ///
+    /// Refused, by the first that holds: `NotAbsolute` where the text does not begin with `/`;
+    /// `BadByte` where it has a byte 0 or LF or is not UTF-8; by the first of the segments behind
+    /// the first `/` that is at fault, `TooDeep` for the 65th whatever it holds, `EmptyName`,
+    /// `DotName`, `LongName`; and `NoMemory`. The text `/` has no segments.
+    pub fn parse(alloc: Global, text: &[u8]) -> Result<Path, PathError>
+        ensures path { IfOk result (λ p. path_of text.now ≡ Ok p) }
+        ensures refused { IfErr result (λ e. (e ≡ NoMemoryError) ⊎ (path_of text.now ≡ Err e)) }
+    {
+        let Some(rest) = after_slash(text) else {
+            return Err(PathError::NotAbsolute);
+        };
+        if !has_path_bytes(text) {
+            return Err(PathError::BadByte);
+        }
+        if rest.is_empty() {
+            return Ok(Path::root());
+        }
+        let names = names_between(alloc, rest)?;
+        let path = Path::with_names(alloc, names)?;
+        Ok(path)
+    }
+
+    /// Appends the text of the path: `/` for the root, and else a `/` and the name for each name.
+    ///
+    /// The only error is want of memory.
+    pub fn write(&self, out: &mut Vec<u8>) -> Result<(), NoMemory>
+        ensures ok { OnOk result (out.new.items ≡ out.old.items ++ path_text self.now) }
+        ensures err { OnErr result (out.new.items ≡ out.old.items) }
+    {
+        let names = self.as_slice();
+        if names.is_empty() {
+            out.push(b'/')?;
+            return Ok(());
+        }
+        let before = out.len();
+        let written = write_slashed(names, out);
+        if written.is_err() {
+            out.truncate(before);
+        }
+        written
+    }
+
+    /// The path with these names, which are at most 64.
+    fn with_names(alloc: Global, names: Vec<Name>) -> Result<Path, NoMemory>
+        requires { IsPath names.items }
+        ensures { IfOk result (λ path. path ≡ names.items) }
+    {
+        if names.is_empty() {
+            return Ok(Path::root());
+        }
+        match Shared::new(alloc, Names::from_vec(names)) {
+            Ok(names) => Ok(Path { names: Some(names) }),
+            Err((_, refused)) => Err(refused),
+        }
     }
 
     /// The names, from the root down.
