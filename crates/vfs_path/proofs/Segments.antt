@@ -76,11 +76,11 @@ rest_bytes text rest e h =
 
 -- ---- segments against which nothing is said
 
-or_none : (a b : Option PathError) → or_refusal a b ≡ None → (a ≡ None) × (b ≡ None)
+pub or_none : (a b : Option PathError) → or_refusal a b ≡ None → (a ≡ None) × (b ≡ None)
 or_none None b e = (refl, e)
 or_none (Some x) b e = absurd cc
 
-chosen_none : {A : Type 0} (t : Bool) (x : A) (other : Option A) → cond t (Some x) other ≡ None → (t ≡ false) × (other ≡ None)
+pub chosen_none : {A : Type 0} (t : Bool) (x : A) (other : Option A) → cond t (Some x) other ≡ None → (t ≡ false) × (other ≡ None)
 chosen_none true x other e = absurd cc
 chosen_none false x other e = (refl, e)
 

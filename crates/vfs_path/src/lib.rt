@@ -2,6 +2,7 @@
 #![tactic(auto)]
 
 mod error;
+pub mod laws;
 mod name;
 mod path;
 mod text;
@@ -19,3 +20,4 @@ pub fn shares_with_threads(name: &Name, path: &Path, names: &Names, paths: &Path
 }
 
 fn shareable<T: Send + Sync>(_value: &T) {}
+
