@@ -1,6 +1,6 @@
 -- The world of a list of files: what is at each place, what a write is refused for, and what it leaves.
-use Rattle.std.proofs.Common.{◌≡◌, ◌≢◌, ℕ, zero, suc, ◌+◌, ◌<◌, ◌≤◌, Bool, true, false, not, cond, ◌&&◌, List, [], ◌∷◌, ◌++◌, length, map, find, get_or, set, Option, Some, None, option_map, refl, sym, ap, ◌∙◌, subst, arith, add-one, nat_le, nat_lt, ltb-false, if◌then◌else◌, is_none}
-use Rattle.std.proofs.lemmas.Bool.{both_ways, true≢false, false_from_ne_true}
+use Rattle.std.proofs.Common.{◌≡◌, ℕ, zero, suc, ◌+◌, ◌<◌, ◌≤◌, Bool, true, false, cond, ◌&&◌, List, [], ◌∷◌, ◌++◌, length, map, find, get_or, set, Option, Some, None, option_map, refl, sym, ap, ◌∙◌, subst, arith, nat_le, nat_lt, ltb-false, if◌then◌else◌, is_none}
+use Rattle.std.proofs.lemmas.Bool.{both_ways, false_from_ne_true}
 use Rattle.std.proofs.lemmas.List.{map-append, get_or_default}
 use Rattle.std.proofs.lemmas.List.Folds.{find_at}
 use Rattle.std.proofs.lemmas.List.Quantifiers.{position-Some}
@@ -8,11 +8,10 @@ use Rattle.std.proofs.lemmas.Bool.Decides.{nat_tests}
 use Rattle.std.proofs.lemmas.Option.{slice_get_past, slice_get-get_or}
 use Rattle.std.specs.List.{position, position_or_len, slice_get, AllByRecursion as Each}
 use Rattle.vfs_model.specs.declared.Case.{Case}
-use Rattle.vfs_model.specs.Paths.{Name, Path, folded_name, place, is_same_name, is_same_place, is_child}
-use Rattle.vfs_model.specs.World.{World, Entry, Directory, Regular, at, names, insert_name, listed_in, AreDistinct, IsWorld, IsSameBelow, status_of, node_of, spelling_of}
-use Rattle.vfs_model.specs.Edit.{Write, Refusal, Crowded, NoParent, NotDir, refusal, apply, entry_after_write, status_there, is_missing, parent}
+use Rattle.vfs_model.specs.Paths.{Name, Path, folded_name, place, is_same_place}
+use Rattle.vfs_model.specs.World.{World, Entry, Directory, Regular, at, names, insert_name, AreDistinct, IsWorld, status_of, spelling_of}
+use Rattle.vfs_model.specs.Edit.{Write, Refusal, Crowded, NoParent, NotDir, refusal, apply, entry_after_write, is_missing, parent}
 use Rattle.vfs_model.specs.Scanning.{look, look_of, SeesNothing, SeesFile}
-use Rattle.vfs_model.specs.History.{empty_world}
 use Rattle.vfs_laws.proofs.Splits.{split, split_option}
 use Rattle.vfs_laws.proofs.PathLemmas.{same_name-true, same_place-true, same_place-refl}
 use Rattle.vfs_laws.proofs.NameLemmas.{same_place-last, listed_name-names}
@@ -213,12 +212,6 @@ written-old case files n bytes i f w e is =
     here = position-Some (is_named case n) files i f e
 
 -- ---- what stays one world
-
-pub same-itself : (case : Case) (world : World) → IsSameBelow case world [] world []
-same-itself case world = record { nodes = λ x. refl; names = λ x n. refl }
-
-pub same-after : (case : Case) (v w : World) → w ≡ v → IsSameBelow case v [] w []
-same-after case v w e = subst (λ (u : World). IsSameBelow case v [] u []) (sym e) (same-itself case v)
 
 pub still-a-world : (case : Case) (world after : World) (n : Name) (bytes : List ℕ) → refusal case world (Write (n ∷ []) bytes) ≡ None → after ≡ apply case world (Write (n ∷ []) bytes) → IsWorld case world → IsWorld case after
 still-a-world case world after n bytes e is h = subst (λ (w : World). IsWorld case w) (sym is) (accepted-world case world (Write (n ∷ []) bytes) e (omega arith, tt) h)

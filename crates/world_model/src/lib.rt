@@ -5,6 +5,8 @@ mod edit;
 mod entry;
 mod intake;
 mod mem_tree;
+#[cfg(test)]
+mod tests;
 mod tree;
 
 pub use edit::{ApplyError, Edit, EditError, Events};

@@ -7,7 +7,8 @@ ghost use Rattle.vfs_model.specs.World.{IsWorld};
 ghost use Rattle.vfs_model.specs.Edit as edits;
 ghost use Rattle.vfs_model.specs.Scanning as scanning;
 ghost use Rattle.vfs_model.specs.History.{empty_world};
-ghost use Rattle.world_model.specs.Meaning.{look_seen, refusal_of, IsCause};
+ghost use Rattle.world_model.specs.Meaning.{edit_of, events_of, look_seen, refusal_of, IsRefusal};
+ghost use Rattle.world_model.specs.declared.entry.LookError.TheVariants as look_error;
 ghost use Rattle.world_model.specs.Files.{world_of, is_named};
 
 use crate::edit::{ApplyError, Edit, EditError, Events};
@@ -44,6 +45,7 @@ impl Model for MemTree {
 
     ghost Value = { Held };
 
+    ghost use Rattle.world_model.specs.declared.entry.LookError.TheVariants as look_error;
     ghost use Rattle.world_model.specs.Files.{world_of};
 
     ghost view = { λ t. record { case = t.case; world = world_of t.files.items } };
@@ -68,8 +70,8 @@ impl MemTree {
         ensures event { IfOk result (λ event. event ≡ path.now) }
         ensures allowed { OnOk result (edits.refusal self.old.case self.old.world (edits.Write path.now bytes.now) ≡ None) }
         ensures written { OnOk result (self.new.world ≡ edits.apply self.old.case self.old.world (edits.Write path.now bytes.now)) }
-        ensures refused { IfErr result (IsCause (edits.refusal self.old.case self.old.world (edits.Write path.now bytes.now))) }
-        ensures kept { OnErr result (self.new.world ≡ self.old.world) }
+        ensures refused { IfErr result (IsRefusal (edits.refusal self.old.case self.old.world (edits.Write path.now bytes.now))) }
+        ensures kept { OnErr result (self.new ≡ self.old) }
     {
         let name = write_target(self.case, &self.files, path.as_slice())?;
         let event = path.share()?;
@@ -83,15 +85,37 @@ impl Tree for MemTree {
 
     ghost told = { λ t. record { case = t.case; content = Some t.world; faults = 0 } };
 
-    fn case(&self) -> Case {
+    fn case(&self) -> Case
+        ensures case { result ≡ self.now.case }
+        ensures world { IsWorld self.now.case self.now.world }
+    {
         self.case
     }
 
-    fn look(&mut self, path: &Path) -> Result<Entry, LookError> {
+    /// What is at the path, below the root. The tree stays.
+    ///
+    /// The only error is `NoMemory`, want of memory.
+    fn look(&mut self, path: &Path) -> Result<Entry, LookError>
+        requires { 0 < length path.now }
+        ensures tree { self.new ≡ self.old }
+        ensures seen { IfOk result (λ entry. look_seen entry ≡ scanning.look self.old.case self.old.world (place self.old.case path.now)) }
+        ensures failed { IfErr result (λ e. e ≡ look_error.NoMemory) }
+    {
         Ok(look_at(self.case, &self.files, path.as_slice())?)
     }
 
-    fn apply(&mut self, edit: &Edit) -> Result<Events, ApplyError> {
+    /// Does the edit, and gives the paths that tell of it.
+    ///
+    /// `Refused` carries the first refusal that holds; `NoMemory` is want of memory, where no
+    /// refusal holds. On either the tree stays.
+    fn apply(&mut self, edit: &Edit) -> Result<Events, ApplyError>
+        ensures case { self.new.case ≡ self.old.case }
+        ensures events { IfOk result (λ events. events_of events ≡ edits.events (edit_of edit.now)) }
+        ensures allowed { OnOk result (edits.refusal self.old.case self.old.world (edit_of edit.now) ≡ None) }
+        ensures applied { OnOk result (self.new.world ≡ edits.apply self.old.case self.old.world (edit_of edit.now)) }
+        ensures refused { IfErr result (IsRefusal (edits.refusal self.old.case self.old.world (edit_of edit.now))) }
+        ensures kept { OnErr result (self.new ≡ self.old) }
+    {
         match edit {
             Edit::Write(path, bytes) => Ok(Events::One(self.write(path, bytes)?)),
         }
@@ -149,7 +173,12 @@ fn write_target<'a>(case: Case, files: &[MemFile], names: &'a [Name]) -> Result<
 }
 
 /// Replaces the bytes of the file with this name, or adds the file.
-fn put_file(case: Case, files: &mut Vec<MemFile>, name: &Name, bytes: &Bytes) -> Result<(), NoMemory>
+fn put_file(
+    case: Case,
+    files: &mut Vec<MemFile>,
+    name: &Name,
+    bytes: &Bytes,
+) -> Result<(), NoMemory>
     requires { IsWorld case (world_of files.old.items) }
     ensures written { OnOk result (world_of files.new.items ≡ edits.apply case (world_of files.old.items) (edits.Write (name.now ∷ []) bytes.now)) }
     ensures kept { OnErr result (files.new.items ≡ files.old.items) }

@@ -1,4 +1,4 @@
-use Rattle.std.proofs.Common.{◌≡◌, ap, ◌∙◌, sym, arith}
+use Rattle.std.proofs.Common.{ap, ◌∙◌, sym, arith}
 use Rattle.vfs_model.specs.Paths.{place}
 use Rattle.vfs_model.specs.Scanning.{look, SeesFile}
 use Rattle.world_model.specs.Files.{world_of}

@@ -1,6 +1,5 @@
-use Rattle.std.proofs.Common.{◌≡◌, ap, ◌∙◌, sym, List, ◌++◌, [], ◌∷◌, subst, set, get_or}
+use Rattle.std.proofs.Common.{ap, ◌∙◌, sym, List, ◌++◌, [], ◌∷◌, set}
 use Rattle.std.specs.List.{position}
-use Rattle.world_model.specs.declared.mem_tree.MemFile.{MemFile}
 use Rattle.world_model.specs.Files.{world_of, is_named}
 use Rattle.world_model.proofs.FileLemmas.{written-old, written-new, not_found}
 use Rattle.world_model.proofs.mem_tree.put_file.Goals as goal

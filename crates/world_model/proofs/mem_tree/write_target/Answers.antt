@@ -1,7 +1,5 @@
-use Rattle.std.proofs.Common.{◌≡◌, sym, subst, arith, ℕ, List, Option, Some, None, ◌∷◌, get_or}
-use Rattle.vfs_model.specs.Paths.{Path}
-use Rattle.vfs_model.specs.Edit.{Refusal, Crowded, NoParent, NotDir, refusal, Write}
-use Rattle.world_model.specs.Files.{world_of}
+use Rattle.std.proofs.Common.{sym, arith, Some, None}
+use Rattle.vfs_model.specs.Edit.{Crowded, NoParent, NotDir}
 use Rattle.world_model.proofs.FileLemmas.{one-name, two-names, some-file, not_found, allowed-room, allowed-found, crowded, below-file, below-nothing, far-below, along}
 use Rattle.world_model.proofs.mem_tree.write_target.Goals as goal
 

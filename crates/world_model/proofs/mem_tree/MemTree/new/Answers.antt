@@ -1,4 +1,4 @@
-use Rattle.std.proofs.Common.{◌≡◌, List, sym, subst}
+use Rattle.std.proofs.Common.{List, sym, subst}
 use Rattle.vfs_model.specs.World.{IsWorld}
 use Rattle.world_model.specs.declared.mem_tree.MemFile.{MemFile}
 use Rattle.world_model.specs.Files.{world_of}
