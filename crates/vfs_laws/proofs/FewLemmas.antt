@@ -49,7 +49,7 @@ length-insert case n (m ∷ ns) =
     (λ o. rw o (omega arith))
     (λ o. rw o (let deeper = length-insert case n ns in omega arith))
 
-length-insert_new : (case : Case) (n : Name) (ns : List Name) → listed_in case ns (folded_name case n) ≡ None → length (insert_name case n ns) ≡ length ns + 1
+pub length-insert_new : (case : Case) (n : Name) (ns : List Name) → listed_in case ns (folded_name case n) ≡ None → length (insert_name case n ns) ≡ length ns + 1
 length-insert_new case n [] h = omega arith
 length-insert_new case n (m ∷ ns) h =
     split_order (name_order case n m)

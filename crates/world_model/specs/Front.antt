@@ -1,5 +1,5 @@
 -- What a queue of events shows first, and how it goes on without it.
-use Rattle.std.specs.Prelude.{◌≡◌, Bool, true, false, List, [], ◌∷◌, drop, if◌then◌else◌}
+use Rattle.std.specs.Prelude.{◌≡◌, true, false, List, [], ◌∷◌, drop, if◌then◌else◌}
 use Rattle.vfs_model.specs.Paths.{Path}
 use Rattle.vfs_model.specs.Pending.{Pending}
 use Rattle.world_model.specs.declared.intake.Front.{Front}

@@ -1,5 +1,5 @@
 -- What the types of the code stand for.
-use Rattle.std.specs.Prelude.{◌≡◌, ℕ, List, [], ◌∷◌, Option, Some}
+use Rattle.std.specs.Prelude.{◌≡◌, ℕ, List, [], ◌∷◌, Option, Some, None}
 use Rattle.vfs_model.specs.Paths.{Path}
 use Rattle.vfs_model.specs.Edit.{Edit, Write, Refusal, Root, NoParent, NotDir, Exists, Absent, IntoItself, TooDeep, Crowded, ReadOnly}
 use Rattle.vfs_model.specs.Scanning.{Look, SeesNothing, SeesFile}
@@ -55,3 +55,8 @@ number_of error.ReadOnly = 9
 abbrev pub IsCause : Option Refusal → ApplyError → Type 0
 IsCause due (apply_error.Refused e) = due ≡ Some (refusal_of e)
 IsCause due apply_error.NoMemory = Unit {0}
+
+-- a refusal is the one that is due, and memory is wanting only where none is due
+abbrev pub IsRefusal : Option Refusal → ApplyError → Type 0
+IsRefusal due (apply_error.Refused e) = due ≡ Some (refusal_of e)
+IsRefusal due apply_error.NoMemory = due ≡ None

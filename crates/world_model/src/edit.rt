@@ -1,8 +1,10 @@
 //! Edits of a tree, their refusals and their events.
 
 ghost use Rattle.std.specs.Prelude.{◌≡◌};
+ghost use Rattle.world_model.specs.declared.edit.ApplyError.TheVariants as apply_error;
 ghost use Rattle.world_model.specs.Meaning.{number_of};
 
+use case_order::NoMemory;
 use merkle_hash::Bytes;
 use thiserror::Error;
 use vfs_path::Path;
@@ -79,4 +81,20 @@ pub enum ApplyError {
     Refused(EditError),
     /// Want of memory.
     NoMemory,
+}
+
+impl From<EditError> for ApplyError {
+    ghost from_gives = { λ refusal e. e ≡ apply_error.Refused refusal };
+
+    fn from(refusal: EditError) -> ApplyError {
+        ApplyError::Refused(refusal)
+    }
+}
+
+impl From<NoMemory> for ApplyError {
+    ghost from_gives = { λ _ e. e ≡ apply_error.NoMemory };
+
+    fn from(_: NoMemory) -> ApplyError {
+        ApplyError::NoMemory
+    }
 }

@@ -1,5 +1,9 @@
 //! What is at a location.
 
+ghost use Rattle.std.specs.Prelude.{◌≡◌};
+ghost use Rattle.world_model.specs.declared.entry.LookError.TheVariants as look_error;
+
+use case_order::NoMemory;
 use merkle_hash::Bytes;
 
 /// What a look at a location gives.
@@ -18,4 +22,12 @@ pub enum LookError {
     Failed,
     /// Want of memory.
     NoMemory,
+}
+
+impl From<NoMemory> for LookError {
+    ghost from_gives = { λ _ e. e ≡ look_error.NoMemory };
+
+    fn from(_: NoMemory) -> LookError {
+        LookError::NoMemory
+    }
 }

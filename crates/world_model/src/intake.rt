@@ -80,8 +80,7 @@ impl Intake {
             self.events.push_back_reserved(path);
             Fit::Fits
         } else {
-            self.events.clear();
-            self.is_marked = true;
+            self.lose();
             Fit::Overflow
         }
     }

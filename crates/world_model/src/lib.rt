@@ -4,9 +4,13 @@
 mod edit;
 mod entry;
 mod intake;
+mod mem_tree;
+#[cfg(test)]
+mod tests;
 mod tree;
 
 pub use edit::{ApplyError, Edit, EditError, Events};
 pub use entry::{Entry, LookError};
 pub use intake::{Fit, Front, Intake};
+pub use mem_tree::MemTree;
 pub use tree::Tree;
