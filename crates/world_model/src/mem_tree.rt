@@ -85,6 +85,8 @@ impl Tree for MemTree {
 
     ghost told = { λ t. record { case = t.case; content = Some t.world; faults = 0 } };
 
+    ghost most_faults = { 0 };
+
     fn case(&self) -> Case
         ensures case { result ≡ self.now.case }
         ensures world { IsWorld self.now.case self.now.world }
