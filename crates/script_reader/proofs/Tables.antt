@@ -1,0 +1,186 @@
+-- The forms of lines: what is read is of its form, and what is of a form is read.
+use Rattle.std.proofs.Common.{◌≡◌, ℕ, ◌≤◌, Bool, true, false, cond, ltb, List, [], ◌∷◌, length, Result, Ok, Err, refl, sym, ap, subst, inl, inr, ◌⊎◌, Decides}
+use Rattle.std.specs.Prelude.{codes}
+use Rattle.std.specs.Str.{bytes_eq}
+use Rattle.std.specs.List.{AllByRecursion}
+use Rattle.std.proofs.lemmas.Bool.{ltb-false, le-ltb}
+use Rattle.std.proofs.lemmas.Slice.Eq.{bytes_eq-Decides}
+use Rattle.vfs_model.specs.Paths.{Path}
+use Rattle.vfs_path.specs.declared.error.PathError.{PathError}
+use Rattle.vfs_path.specs.Texts.{IsPath, path_of, path_text}
+use Rattle.world_model.specs.declared.edit.Edit.TheVariants.{Write}
+use Rattle.script_reader.specs.declared.cause.Cause.{Cause}
+use Rattle.script_reader.specs.declared.cause.Cause.TheVariants as causes
+use Rattle.script_reader.specs.declared.script.Command.{Command}
+use Rattle.script_reader.specs.declared.script.Command.TheVariants.{Edit, Settle, Begin, Read, Publish, Find}
+use Rattle.script_reader.specs.Gives.{◌>>=◌}
+use Rattle.script_reader.specs.Forms.{Form, or_bad_path, path_from, content_from, no_more, one_path, path_and_content, form_named, command_forms, command_of}
+use Rattle.script_reader.specs.Grammar.{IsFileForm, IsPathForm, IsCommand}
+use Rattle.vfs_path.proofs.TextLaws.{path_text-from_text, IsPath-from_text, path_of-path_text}
+
+-- ---- steps that did not fail
+
+pub bind_ok : {A B : Type 0} (r : Result A Cause) (f : A → Result B Cause) (y : B) → (r >>= f) ≡ Ok y → (x : A) × (r ≡ Ok x) × (f x ≡ Ok y)
+bind_ok (Ok x) f y e = (x, refl, e)
+bind_ok (Err d) f y e = absurd cc
+
+abbrev done : {A : Type 0} → A → Result A Cause
+done x = Ok x
+
+pub ok_is : {A : Type 0} (x y : A) → done x ≡ done y → x ≡ y
+ok_is x y e = cc
+
+pub guard_ok : {A : Type 0} (b : Bool) (d : Cause) (x : Result A Cause) (z : A) → cond b (Err d) x ≡ Ok z → (b ≡ false) × (x ≡ Ok z)
+guard_ok true d x z e = absurd cc
+guard_ok false d x z e = (refl, e)
+
+pub passed_ok : {A : Type 0} (b : Bool) (d : Cause) (x : Result A Cause) (z : A) → cond b x (Err d) ≡ Ok z → (b ≡ true) × (x ≡ Ok z)
+passed_ok true d x z e = (refl, e)
+passed_ok false d x z e = absurd cc
+
+-- two lists with equal heads and equal rests
+cons_same : {X : Type 0} (x y : X) (xs ys : List X) → x ≡ y → xs ≡ ys → x ∷ xs ≡ y ∷ ys
+cons_same x y xs ys p q = cc
+
+-- a word and the words after it
+parts_of : {X : Type 0} (x y : X) (xs ys : List X) → x ∷ xs ≡ y ∷ ys → (x ≡ y) × (xs ≡ ys)
+parts_of x y xs ys e = (cc, cc)
+
+-- ---- what may stand after the second word
+
+no_refusal : (r : Result Path PathError) (path : Path) → or_bad_path r ≡ Ok path → r ≡ Ok path
+no_refusal (Ok p) path e = cc
+no_refusal (Err refusal) path e = absurd cc
+
+path_from_is : (word : List ℕ) (path : Path) → path_from word ≡ Ok path → (word ≡ path_text path) × IsPath path
+path_from_is word path e =
+    let read = no_refusal (path_of word) path e in
+    (sym (path_text-from_text word path read), IsPath-from_text word path read)
+
+path_from_again : (path : Path) → IsPath path → path_from (path_text path) ≡ Ok path
+path_from_again path is = ap or_bad_path (path_of-path_text path is)
+
+content_is : (word bytes : List ℕ) → content_from word ≡ Ok bytes → (word ≡ bytes) × (length bytes ≤ 1048576)
+content_is word bytes e =
+    let g = guard_ok (ltb 1048576 (length word)) causes.TooLarge (Ok word) bytes e in
+    let same = ok_is word bytes g.1 in
+    (same, subst (λ (v : List ℕ). length v ≤ 1048576) same (ltb-false _ _ g.0))
+
+content_again : (bytes : List ℕ) → length bytes ≤ 1048576 → content_from bytes ≡ Ok bytes
+content_again bytes le = rw (le-ltb 1048576 (length bytes) le) refl
+
+one_path_is : (args : List (List ℕ)) (path : Path) → one_path args ≡ Ok path → (args ≡ path_text path ∷ []) × IsPath path
+one_path_is [] path e = absurd cc
+one_path_is (word ∷ []) path e = let i = path_from_is word path e in (ap (λ (v : List ℕ). v ∷ []) i.0, i.1)
+one_path_is (word ∷ v ∷ more) path e = absurd cc
+
+no_more_is : (args : List (List ℕ)) (u : Unit {0}) → no_more args ≡ Ok u → args ≡ []
+no_more_is [] u e = refl
+no_more_is (word ∷ more) u e = absurd cc
+
+-- the words after the name of a form with a path and contents
+abbrev FileWords : Path → List ℕ → List (List ℕ) → Type 0
+FileWords path bytes args = IsPath path × (length bytes ≤ 1048576) × (args ≡ path_text path ∷ bytes ∷ [])
+
+path_and_content_is : (args : List (List ℕ)) (a : Path × List ℕ) → path_and_content args ≡ Ok a → FileWords a.0 a.1 args
+path_and_content_is [] a e = absurd cc
+path_and_content_is (word ∷ []) a e = absurd cc
+path_and_content_is (word ∷ bytes ∷ []) a e =
+    let b = bind_ok (path_from word) (λ path. content_from bytes >>= λ content. Ok (path, content)) a e in
+    let d = bind_ok (content_from bytes) (λ content. Ok (b.0, content)) a b.2 in
+    let i = path_from_is word b.0 b.1 in
+    let j = content_is bytes d.0 d.1 in
+    subst (λ (x : Path × List ℕ). FileWords x.0 x.1 (word ∷ bytes ∷ [])) (ok_is (b.0, d.0) a d.2) (i.1, j.1, cons_same word (path_text b.0) (bytes ∷ []) (d.0 ∷ []) i.0 (ap (λ (v : List ℕ). v ∷ []) j.0))
+path_and_content_is (word ∷ bytes ∷ v ∷ more) a e = absurd cc
+
+path_and_content_again : (path : Path) (bytes : List ℕ) (args : List (List ℕ)) → FileWords path bytes args → path_and_content args ≡ Ok (path, bytes)
+path_and_content_again path bytes args h = rw (h.2, path_from_again path h.0, content_again bytes h.1) refl
+
+-- ---- rows of a table
+
+-- the row of the word, or a later one
+row : {X : Type 0} (word name : List ℕ) (here later : Result X Cause) (x : X) → cond (bytes_eq word name) here later ≡ Ok x → ((word ≡ name) × (here ≡ Ok x)) ⊎ (later ≡ Ok x)
+row word name here later x e = row_by (bytes_eq word name) (bytes_eq-Decides word name) e
+  where
+    row_by : (b : Bool) → Decides b (word ≡ name) → cond b here later ≡ Ok x → ((word ≡ name) × (here ≡ Ok x)) ⊎ (later ≡ Ok x)
+    row_by true d e = inl (d.0 refl, e)
+    row_by false d e = inr e
+
+-- what a row reads is of its form
+RowIs : {X : Type 0} (Is : X → List (List ℕ) → Type 0) → List ℕ × Form X → Type 0
+RowIs {X} Is r = (word : List ℕ) (args : List (List ℕ)) (x : X) → word ≡ r.0 → r.1 args ≡ Ok x → Is x (word ∷ args)
+
+table_is : {X : Type 0} (Is : X → List (List ℕ) → Type 0) (rows : List (List ℕ × Form X)) → AllByRecursion (RowIs Is) rows → (word : List ℕ) (args : List (List ℕ)) (x : X) → form_named rows word args ≡ Ok x → Is x (word ∷ args)
+unfolding RowIs
+table_is Is [] each word args x e = absurd cc
+table_is Is (r ∷ rows) each word args x e =
+    elim (row word r.0 (r.1 args) (form_named rows word args) x e) [
+      | inl h ↦ each.0 word args x h.0 h.1
+      | inr later ↦ table_is Is rows each.1 word args x later
+    ]
+
+path_row : {X : Type 0} (Is : X → List (List ℕ) → Type 0) (name : List ℕ) (make : Path → X) → ((path : Path) (words : List (List ℕ)) → IsPathForm name path words → Is (make path) words) → RowIs Is (name, λ args. one_path args >>= λ path. Ok (make path))
+unfolding RowIs
+path_row Is name make is word args x w e =
+    let b = bind_ok (one_path args) (λ path. Ok (make path)) x e in
+    let i = one_path_is args b.0 b.1 in
+    subst (λ (y : _). Is y (word ∷ args)) (ok_is (make b.0) x b.2) (is b.0 (word ∷ args) (i.1, cons_same word name args (path_text b.0 ∷ []) w i.0))
+
+file_row : {X : Type 0} (Is : X → List (List ℕ) → Type 0) (name : List ℕ) (make : Path → List ℕ → X) → ((path : Path) (bytes : List ℕ) (words : List (List ℕ)) → IsFileForm name path bytes words → Is (make path bytes) words)
+    → RowIs Is (name, λ args. path_and_content args >>= λ a. Ok (make a.0 a.1))
+unfolding RowIs
+file_row Is name make is word args x w e =
+    let b = bind_ok (path_and_content args) (λ a. Ok (make a.0 a.1)) x e in
+    let i = path_and_content_is args b.0 b.1 in
+    subst (λ (y : _). Is y (word ∷ args)) (ok_is (make b.0.0 b.0.1) x b.2) (is b.0.0 b.0.1 (word ∷ args) (i.0, i.1, cons_same word name args (path_text b.0.0 ∷ b.0.1 ∷ []) w i.2))
+
+plain_row : {X : Type 0} (Is : X → List (List ℕ) → Type 0) (name : List ℕ) (it : X) → ((words : List (List ℕ)) → words ≡ name ∷ [] → Is it words) → RowIs Is (name, λ args. no_more args >>= λ _. Ok it)
+unfolding RowIs
+plain_row Is name it is word args x w e =
+    let b = bind_ok (no_more args) (λ _. Ok it) x e in
+    subst (λ (y : _). Is y (word ∷ args)) (ok_is it x b.2) (is (word ∷ args) (cons_same word name args [] w (no_more_is args b.0 b.1)))
+
+-- ---- commands, row by row
+
+pub command_is : (word : List ℕ) (args : List (List ℕ)) (command : Command) → command_of word args ≡ Ok command → IsCommand command (word ∷ args)
+unfolding command_of
+command_is =
+    table_is IsCommand command_forms (
+      file_row IsCommand (codes "write") (λ path bytes. Edit (Write path bytes)) (λ path bytes words h. h),
+      (
+        plain_row IsCommand (codes "settle") Settle (λ words h. h),
+        (
+          path_row IsCommand (codes "begin") Begin (λ path words h. h),
+          (
+            plain_row IsCommand (codes "read") Read (λ words h. h),
+            (
+              plain_row IsCommand (codes "publish") Publish (λ words h. h),
+              (
+                path_row IsCommand (codes "find") Find (λ path words h. h),
+                tt,
+              ),
+            ),
+          ),
+        ),
+      ),
+    )
+
+path_row_again : {X : Type 0} (name word : List ℕ) (args : List (List ℕ)) (make : Path → X) (path : Path) → IsPathForm name path (word ∷ args) → (word ≡ name) × ((one_path args >>= λ p. Ok (make p)) ≡ Ok (make path))
+path_row_again name word args make path h =
+    let e = parts_of word name args (path_text path ∷ []) h.1 in
+    (e.0, rw (e.1, path_from_again path h.0) refl)
+
+file_row_again : {X : Type 0} (name word : List ℕ) (args : List (List ℕ)) (make : Path → List ℕ → X) (path : Path) (bytes : List ℕ) → IsFileForm name path bytes (word ∷ args)
+    → (word ≡ name) × ((path_and_content args >>= λ a. Ok (make a.0 a.1)) ≡ Ok (make path bytes))
+file_row_again name word args make path bytes h =
+    let e = parts_of word name args (path_text path ∷ bytes ∷ []) h.2 in
+    (e.0, rw (path_and_content_again path bytes args (h.0, h.1, e.1)) refl)
+
+pub command_again : (command : Command) (word : List ℕ) (args : List (List ℕ)) → IsCommand command (word ∷ args) → command_of word args ≡ Ok command
+unfolding command_of
+command_again (Edit (Write path bytes)) word args h = let r = file_row_again (codes "write") word args (λ p bs. Edit (Write p bs)) path bytes h in rw r.0 r.1
+command_again Settle word args h = let e = parts_of word (codes "settle") args [] h in rw (e.0, e.1) refl
+command_again (Begin path) word args h = let r = path_row_again (codes "begin") word args Begin path h in rw r.0 r.1
+command_again Read word args h = let e = parts_of word (codes "read") args [] h in rw (e.0, e.1) refl
+command_again Publish word args h = let e = parts_of word (codes "publish") args [] h in rw (e.0, e.1) refl
+command_again (Find path) word args h = let r = path_row_again (codes "find") word args Find path h in rw r.0 r.1

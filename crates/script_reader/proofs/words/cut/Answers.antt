@@ -1,0 +1,11 @@
+use Rattle.std.proofs.Common.{eqb, sym}
+use Rattle.vfs_path.proofs.Cuts.{cut_none, cut_some, after_place}
+use Rattle.script_reader.proofs.words.cut.Goals as goal
+
+pub returns-in-None-clause-parts : goal.returns-in-None-clause-parts
+returns-in-None-clause-parts c = cut_none _ c.args.bytes.now (sym c.in-None.ensures)
+
+pub returns-in-Some-clause-parts : goal.returns-in-Some-clause-parts
+returns-in-Some-clause-parts c =
+    rw (after_place c.in-Some.i c.args.bytes.now c.split_at.result.1.now c.split_at.ensures.back, c.split_at.ensures.front)
+    (cut_some (λ b. eqb b c.args.at) c.args.bytes.now c.in-Some.i 0 (sym c.in-Some.ensures))

@@ -1,0 +1,95 @@
+-- What the text of a script is, apart from any reading.
+use Rattle.std.specs.Prelude.{◌≡◌, ℕ, ◌+◌, ◌≤◌, ◌<◌, List, [], ◌∷◌, ◌++◌, length, true, false, Ok, Err, codes, ◌==◌}
+use Rattle.std.specs.List.{slice_split, AllByRecursion as Each}
+use Rattle.std.specs.Fmt.{decimal}
+use Rattle.vfs_model.specs.Paths.{Path}
+use Rattle.vfs_path.specs.Texts.{IsPath, path_text}
+use Rattle.world_model.specs.declared.edit.Edit.{Edit as EditValue}
+use Rattle.world_model.specs.declared.edit.Edit.TheVariants.{Write}
+use Rattle.script_reader.specs.declared.cause.Cause.{Cause}
+use Rattle.script_reader.specs.declared.cause.Cause.TheVariants as causes
+use Rattle.script_reader.specs.declared.cause.BadLine.{BadLine}
+use Rattle.script_reader.specs.declared.script.TextKind.{TextKind}
+use Rattle.script_reader.specs.declared.script.Command.{Command}
+use Rattle.script_reader.specs.declared.script.Command.TheVariants.{Edit, Settle, Begin, Read, Publish, Find}
+use Rattle.script_reader.specs.declared.script.Line.{Line}
+use Rattle.script_reader.specs.declared.script.Script.{Script}
+use Rattle.script_reader.specs.Words.{is_note, words_of}
+use Rattle.script_reader.specs.Reading.{is_in, after_line, is_line_end}
+
+-- ---- the words of a command line
+
+-- a name and a path
+abbrev pub IsPathForm : List ℕ → Path → List (List ℕ) → Type 0
+IsPathForm name path words = IsPath path × (words ≡ name ∷ path_text path ∷ [])
+
+-- a name, a path and the contents of a file, of limited size
+abbrev pub IsFileForm : List ℕ → Path → List ℕ → List (List ℕ) → Type 0
+IsFileForm name path bytes words = IsPath path × (length bytes ≤ 1048576) × (words ≡ name ∷ path_text path ∷ bytes ∷ [])
+
+-- the words of an edit after its caller
+abbrev pub IsEdit : EditValue → List (List ℕ) → Type 0
+IsEdit (Write path bytes) words = IsFileForm (codes "write") path bytes words
+
+-- the words of a command after its caller
+abbrev pub IsCommand : Command → List (List ℕ) → Type 0
+IsCommand (Edit edit) words = IsEdit edit words
+IsCommand Settle words = words ≡ codes "settle" ∷ []
+IsCommand (Begin path) words = IsPathForm (codes "begin") path words
+IsCommand Read words = words ≡ codes "read" ∷ []
+IsCommand Publish words = words ≡ codes "publish" ∷ []
+IsCommand (Find path) words = IsPathForm (codes "find") path words
+
+-- ---- lines
+
+-- the text of a line has these words
+abbrev pub HasWords : List ℕ → List (List ℕ) → Type 0
+HasWords text words = (is_note text ≡ false) × (words_of text ≡ Ok words)
+
+-- the text is that of a command line
+pub record IsCommandLine (kind : TextKind) (text : List ℕ) (line : Line) : Type 0 where
+  pub words : List (List ℕ)
+  pub spelled : HasWords text (decimal line.caller ∷ words)
+  pub caller : line.caller ≤ 15
+  pub command : IsCommand line.command words
+  pub allowed : is_in kind line.command ≡ true
+
+-- notes aside, the texts are those of the items, one by one
+pub data AreLines {Item : Type 0} (IsLine : List ℕ → Item → Type 0) : List (List ℕ) → List Item → Type 0 where
+  none : AreLines IsLine [] []
+  note : (text : List ℕ) (texts : List (List ℕ)) (items : List Item) → is_note text ≡ true → AreLines IsLine texts items → AreLines IsLine (text ∷ texts) items
+  line : (text : List ℕ) (item : Item) (texts : List (List ℕ)) (items : List Item) → IsLine text item → AreLines IsLine texts items → AreLines IsLine (text ∷ texts) (item ∷ items)
+
+-- ---- texts
+
+-- the texts of lines are those of the script
+abbrev pub AreScript : TextKind → List (List ℕ) → Script → Type 0
+AreScript kind lines s = AreLines (IsCommandLine kind) lines s.lines
+
+-- the text is that of the script: each line is ended, and the lines are those of the script
+pub record IsTextOf (kind : TextKind) (text : List ℕ) (s : Script) : Type 0 where
+  pub lines : List (List ℕ)
+  pub ended : slice_split is_line_end text ≡ lines ++ [] ∷ []
+  pub script : AreScript kind lines s
+
+-- The first line that no script has there: those before it are the lines of a script, and this one has a cause after them, or is not ended.
+pub data FirstBad (kind : TextKind) (text : List ℕ) : BadLine → Type 0 where
+  unended : (before : List (List ℕ)) (s : Script) (last : List ℕ) → slice_split is_line_end text ≡ before ++ last ∷ [] → AreScript kind before s → length last == 0 ≡ false
+      → FirstBad kind text (record { line = length before + 1; cause = causes.NoLineEnd })
+  ended : (before more : List (List ℕ)) (s : Script) (bad last : List ℕ) (cause : Cause) → slice_split is_line_end text ≡ (before ++ bad ∷ more) ++ last ∷ [] → AreScript kind before s → after_line kind s bad ≡ Err cause
+      → FirstBad kind text (record { line = length before + 1; cause = cause })
+
+-- ---- what every script keeps
+
+-- the fact holds of the path where the command begins a scan
+abbrev pub IfBegin : Command → (Path → Type 0) → Type 0
+IfBegin (Begin path) P = P path
+IfBegin _ P = Unit {0}
+
+-- the line begins no scan of the root
+abbrev pub BeginsBelowRoot : Line → Type 0
+BeginsBelowRoot l = IfBegin l.command (λ path. 0 < length path)
+
+-- no line begins a scan of the root
+abbrev pub BeginBelowRoot : List Line → Type 0
+BeginBelowRoot lines = Each BeginsBelowRoot lines

@@ -1,0 +1,9 @@
+pub mod Causes
+pub mod Gives
+pub mod Numbers
+pub mod Words
+pub mod Forms
+pub mod Reading
+pub mod Grammar
+pub mod Results
+pub mod Laws

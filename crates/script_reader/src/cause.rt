@@ -1,0 +1,93 @@
+//! Why a line is bad.
+
+ghost use Rattle.std.specs.Prelude.{◌≡◌};
+ghost use Rattle.script_reader.specs.Causes.{number_of_cause};
+ghost use Rattle.script_reader.specs.declared.cause.LineError.TheVariants.{NoMemory as WantOfMemory};
+
+use std::alloc::{AllocError, AllocFailed};
+use vfs_path::PathError;
+
+/// What is wrong with a line.
+///
+/// Where several hold, the first of these is told: `NoLineEnd`, `EmptyWord`, `BadEscape`,
+/// `BadCaller`, `WrongCount` for a missing second word, `UnknownWord`, `WrongCount`, and then what
+/// the words after the second say from left to right. The begin of a scan of the root, which is no
+/// form, is told last.
+#[derive(Clone, Copy, Debug, PartialEq, Eq)]
+pub enum Cause {
+    /// The text does not end with LF, and this is what stands after the last LF.
+    NoLineEnd,
+    /// A word has a `%` that no two hexadecimal digits follow.
+    BadEscape,
+    /// The line is no note and has a space at an end, or two together.
+    EmptyWord,
+    /// The second word is no command, or the first is `set`: no setting is known.
+    UnknownWord,
+    /// The first word is neither `set` nor a number from 0 to 15.
+    BadCaller,
+    /// The line has no second word, or more or fewer words than its form.
+    WrongCount,
+    /// The text of a path is refused; the refusal is not want of memory.
+    BadPath(PathError),
+    /// The contents of a file have more than 1,048,576 bytes.
+    TooLarge,
+}
+
+impl Cause {
+    /// The number of the cause. Causes of forms that are not known yet have the numbers between.
+    pub fn number(self) -> u64
+        ensures { result ≡ number_of_cause self }
+    {
+        match self {
+            Cause::NoLineEnd => 1,
+            Cause::BadEscape => 2,
+            Cause::EmptyWord => 3,
+            Cause::UnknownWord => 4,
+            Cause::BadCaller => 5,
+            Cause::WrongCount => 9,
+            Cause::BadPath(_) => 10,
+            Cause::TooLarge => 11,
+        }
+    }
+}
+
+/// The first line that no script has there. Lines count from 1, notes included.
+#[derive(Clone, Copy, Debug, PartialEq, Eq)]
+pub struct BadLine {
+    /// The line.
+    pub line: u64,
+    /// What is wrong with it.
+    pub cause: Cause,
+}
+
+/// Why a text was not read.
+#[derive(Debug, Drop)]
+pub enum ScriptError {
+    /// It is no script.
+    Bad(BadLine),
+    /// Want of memory.
+    NoMemory,
+}
+
+/// Why a line was not read.
+#[derive(Debug, Drop)]
+pub(crate) enum LineError {
+    Bad(Cause),
+    NoMemory,
+}
+
+impl From<AllocError> for LineError {
+    ghost from_gives = { λ _ e. e ≡ WantOfMemory };
+
+    fn from(_: AllocError) -> LineError {
+        LineError::NoMemory
+    }
+}
+
+impl<T: Drop> From<AllocFailed<T>> for LineError {
+    ghost from_gives = { λ _ e. e ≡ WantOfMemory };
+
+    fn from(_: AllocFailed<T>) -> LineError {
+        LineError::NoMemory
+    }
+}

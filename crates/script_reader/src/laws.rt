@@ -1,0 +1,28 @@
+//! Laws of scripts, which are about texts alone.
+
+ghost use Rattle.script_reader.specs.Laws.{NumbersAreDecimal, FormsAreRead, TextsAreRead, FaultsAreFirst, TextsAreDecided};
+
+/// A word is read as a number exactly where it is the number's decimal spelling.
+pub fn numbers_are_decimal()
+    ensures { NumbersAreDecimal }
+{}
+
+/// Words are read as a command exactly where they are its words.
+pub fn forms_are_read()
+    ensures { FormsAreRead }
+{}
+
+/// A text is read as a script exactly where it is the text of that script.
+pub fn texts_are_read()
+    ensures { TextsAreRead }
+{}
+
+/// A bad line is found exactly where it is the first line that no script has there.
+pub fn faults_are_first()
+    ensures { FaultsAreFirst }
+{}
+
+/// A text is that of a script or has a first bad line, and not both.
+pub fn texts_are_decided()
+    ensures { TextsAreDecided }
+{}

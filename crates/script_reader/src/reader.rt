@@ -1,0 +1,154 @@
+//! Reading a script.
+
+ghost use Rattle.std.specs.Prelude.{◌≡◌, IfOk, IfErr};
+ghost use Rattle.script_reader.specs.declared.script.Script.{Script};
+ghost use Rattle.script_reader.specs.declared.cause.BadLine.{BadLine};
+ghost use Rattle.script_reader.specs.Gives.{Gives};
+ghost use Rattle.script_reader.specs.Numbers.{number_of};
+ghost use Rattle.script_reader.specs.Reading.{is_in, Adds, Reads, caller_from, with_setting, with_command, with_words, after_line, script_of};
+ghost use Rattle.script_reader.specs.Grammar.{IsTextOf, FirstBad, BeginBelowRoot};
+ghost use Rattle.script_reader.specs.Results.{IfBad, IsScriptOrNoMemory, IsBadOrNoMemory};
+
+use crate::cause::{BadLine, Cause, LineError, ScriptError};
+use crate::forms::command_of;
+use crate::numbers::number_of;
+use crate::script::{Command, Line, Lines, Script, TextKind};
+use crate::words::{Word, cut, is_note, words_of};
+use std::alloc::Global;
+
+fn caller_of(word: &Word) -> Result<u64, LineError>
+    ensures { Gives result (caller_from (number_of word.now)) }
+{
+    match number_of(word.as_slice()) {
+        Some(caller) if caller <= 15 => Ok(caller),
+        _ => Err(LineError::Bad(Cause::BadCaller)),
+    }
+}
+
+/// Whether a text of this kind may have the command.
+fn is_in(kind: TextKind, command: &Command) -> bool
+    ensures { result ≡ is_in kind command.now }
+{
+    match (kind, command) {
+        (TextKind::Replay, Command::Begin(path)) => path.len() > 0,
+        _ => true,
+    }
+}
+
+/// What is wrong with the words after `set`, as no setting is known.
+fn setting_fault(words: &[Word]) -> Cause
+    ensures { with_setting words.now ≡ Err result }
+{
+    if words.is_empty() {
+        Cause::WrongCount
+    } else {
+        Cause::UnknownWord
+    }
+}
+
+fn add_command(
+    alloc: Global,
+    kind: TextKind,
+    script: &mut Script,
+    caller: u64,
+    words: &[Word],
+) -> Result<(), LineError>
+    ensures { Adds result script.new (with_command kind script.old caller words.now) }
+{
+    let Some((word, args)) = words.split_first() else {
+        return Err(LineError::Bad(Cause::WrongCount));
+    };
+    let command = command_of(alloc, word.as_slice(), args)?;
+    if !is_in(kind, &command) {
+        return Err(LineError::Bad(Cause::UnknownWord));
+    }
+    script.lines.push(Line { caller, command })?;
+    Ok(())
+}
+
+#[tactic(auto, unfolding(crate::specs::Reading::with_words))]
+fn add_words(
+    alloc: Global,
+    kind: TextKind,
+    script: &mut Script,
+    words: &[Word],
+) -> Result<(), LineError>
+    ensures { Adds result script.new (with_words kind script.old words.now) }
+{
+    let Some((first, more)) = words.split_first() else {
+        return Err(LineError::Bad(Cause::BadCaller));
+    };
+    if first.as_slice() == b"set".as_slice() {
+        return Err(LineError::Bad(setting_fault(more)));
+    }
+    let caller = caller_of(first)?;
+    add_command(alloc, kind, script, caller, more)
+}
+
+#[tactic(auto, unfolding(crate::specs::Reading::after_line))]
+fn add_line(
+    alloc: Global,
+    kind: TextKind,
+    script: &mut Script,
+    line: &[u8],
+) -> Result<(), LineError>
+    ensures { Adds result script.new (after_line kind script.old line.now) }
+{
+    if is_note(line) {
+        return Ok(());
+    }
+    let words = words_of(alloc, line)?;
+    add_words(alloc, kind, script, words.as_slice())
+}
+
+fn read_lines(alloc: Global, kind: TextKind, text: &[u8]) -> Result<Script, ScriptError>
+    ensures { Reads result (script_of kind text.now) }
+{
+    let mut script = Script {
+        lines: Lines::from_vec(Vec::new(alloc)),
+    };
+    let mut number: u64 = 1;
+    let mut rest = text;
+    loop {
+        let (line, after) = cut(rest, b'\n');
+        let Some(after) = after else {
+            if line.is_empty() {
+                return Ok(script);
+            }
+            let cause = Cause::NoLineEnd;
+            return Err(ScriptError::Bad(BadLine {
+                line: number,
+                cause,
+            }));
+        };
+        match add_line(alloc, kind, &mut script, line) {
+            Ok(()) => {}
+            Err(LineError::Bad(cause)) => {
+                return Err(ScriptError::Bad(BadLine {
+                    line: number,
+                    cause,
+                }));
+            }
+            Err(LineError::NoMemory) => return Err(ScriptError::NoMemory),
+        }
+        number += 1;
+        rest = after;
+    }
+}
+
+/// The script of a text.
+///
+/// `Bad` comes exactly where the text is no script, and tells its first bad line; `NoMemory` is
+/// want of memory.
+pub fn read_script(alloc: Global, text: &[u8]) -> Result<Script, ScriptError>
+    // What is read is the script of the text, and what is told is its first bad line.
+    ensures found { IfOk result (λ s. IsTextOf TextKind.Replay text.now s) }
+    ensures begun { IfOk result (λ s. BeginBelowRoot s.lines) }
+    ensures bad { IfErr result (λ e. IfBad e (FirstBad TextKind.Replay text.now)) }
+
+    // The text of a script is read, and a bad line is told, unless memory runs out.
+    ensures read { (s : Script) → IsTextOf TextKind.Replay text.now s → IsScriptOrNoMemory result s }
+    ensures named { (b : BadLine) → FirstBad TextKind.Replay text.now b → IsBadOrNoMemory result b }
+{
+    read_lines(alloc, TextKind::Replay, text)
+}
