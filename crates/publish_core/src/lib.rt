@@ -1,0 +1,6 @@
+//! What is retained, with the rule by which a publication is stale.
+#![tactic(auto)]
+
+mod vfs;
+
+pub use vfs::{Published, Ticket, Vfs};

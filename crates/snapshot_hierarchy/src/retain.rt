@@ -1,0 +1,75 @@
+//! What holds snapshots at paths.
+
+ghost use Rattle.std.specs.Prelude.{◌≡◌, IfOk, OnOk, OnErr, option_map};
+ghost use Rattle.vfs_model.specs.Paths.{place};
+ghost use Rattle.vfs_model.specs.Retained as spec;
+ghost use Rattle.vfs_model.specs.State.{glance};
+ghost use Rattle.snapshot_tree.specs.Meaning.{meaning_of, glance_of};
+ghost use Rattle.snapshot_hierarchy.specs.Held.{Held, nothing, was_covered};
+
+use case_order::{Case, NoMemory};
+use snapshot_tree::{Glance, Kind, Snapshot};
+use vfs_path::Path;
+
+/// What came of a store.
+#[derive(Clone, Copy, Debug, PartialEq, Eq)]
+pub enum Stored {
+    /// The snapshot is retained.
+    Kept,
+    /// A snapshot is retained strictly above the path: nothing changed.
+    Covered,
+}
+
+/// What holds snapshots at paths: a sorted list of pairs of a path and its snapshot, no path at or
+/// below another's, and a sorted list of directories that are known, none at or below a pair.
+///
+/// The spelling of the paths in these lists is no part of the content. No call changes the case.
+pub trait Retain {
+    ghost held: { Self → Held };
+
+    /// The case under which paths are compared.
+    fn case(&self) -> Case
+        ensures { result ≡ (held self.now).case };
+
+    /// The part at the path of the pair at or above it; None exactly where there is no such pair.
+    ///
+    /// The only error is want of memory.
+    fn part(&self, path: &Path) -> Result<Option<Snapshot>, NoMemory>
+        ensures { IfOk result (λ part. option_map meaning_of part ≡ spec.part_of (held self.now).case (held self.now).retained.pairs (place (held self.now).case path.now)) };
+
+    /// The kind and the digest of that part; takes no memory.
+    fn find(&self, path: &Path) -> Option<Glance>
+        ensures { option_map glance_of result ≡ glance (spec.part_of (held self.now).case (held self.now).retained.pairs (place (held self.now).case path.now)) };
+
+    /// The kind of that part, and else that of a directory where the path is known to be one.
+    fn kind(&self, path: &Path) -> Option<Kind>
+        ensures { result ≡ spec.kind_of (held self.now).case (held self.now).retained (place (held self.now).case path.now) };
+
+    /// Retains the snapshot at the path, in place of all that was known at and below it, unless a
+    /// pair stands strictly above. Where it is not missing, the paths strictly above become known
+    /// directories.
+    ///
+    /// The only error is want of memory; then nothing changed.
+    fn store(&mut self, path: &Path, snapshot: Snapshot) -> Result<Stored, NoMemory>
+        ensures case { (held self.new).case ≡ (held self.old).case }
+        ensures answer { IfOk result (λ stored. was_covered stored ≡ spec.is_covered (held self.old).retained.pairs (place (held self.old).case path.now)) }
+        ensures kept { OnOk result ((held self.new).retained ≡ spec.after_store (place (held self.old).case path.now) (meaning_of snapshot) (held self.old).retained) }
+        ensures refused { OnErr result (held self.new ≡ held self.old) };
+
+    /// Forgets what has to do with the path: all at and below it, and of a pair strictly above it
+    /// all but what stands beside the way.
+    ///
+    /// The only error is want of memory; then nothing changed.
+    fn invalidate(&mut self, path: &Path) -> Result<(), NoMemory>
+        ensures case { (held self.new).case ≡ (held self.old).case }
+        ensures gone { OnOk result ((held self.new).retained ≡ spec.after_invalidation (held self.old).case (place (held self.old).case path.now) (held self.old).retained) }
+        ensures refused { OnErr result (held self.new ≡ held self.old) };
+
+    /// Forgets everything.
+    ///
+    /// The only error is want of memory; then nothing changed.
+    fn clear(&mut self) -> Result<(), NoMemory>
+        ensures case { (held self.new).case ≡ (held self.old).case }
+        ensures gone { OnOk result ((held self.new).retained ≡ nothing) }
+        ensures refused { OnErr result (held self.new ≡ held self.old) };
+}

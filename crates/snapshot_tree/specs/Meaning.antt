@@ -1,0 +1,15 @@
+-- What the types of the code stand for.
+use Rattle.vfs_model.specs.Snapshot.{Snapshot, Missing, File}
+use Rattle.vfs_model.specs.State.{Glance}
+use Rattle.snapshot_tree.specs.declared.snapshot.Snapshot.{Snapshot as SnapshotValue}
+use Rattle.snapshot_tree.specs.declared.snapshot.Snapshot.TheVariants as value
+use Rattle.snapshot_tree.specs.declared.snapshot.Glance.{Glance as GlanceValue}
+
+-- the snapshot
+abbrev pub meaning_of : SnapshotValue → Snapshot
+meaning_of value.Missing = Missing
+meaning_of (value.File digest) = File digest
+
+-- the kind and the digest
+abbrev pub glance_of : GlanceValue → Glance
+glance_of g = record { kind = g.kind; digest = g.digest }
