@@ -1,0 +1,50 @@
+//! What is retained of files after stores and invalidations.
+
+use crate::{FlatRetain, Retain, Stored};
+use case_order::Case;
+use merkle_hash::{Digest, file_digest};
+use snapshot_tree::{Kind, Snapshot};
+use std::alloc::Global;
+use std::process::Abort;
+use std::test::Fail;
+use vfs_path::Path;
+
+/// What is asked of a holder, and what must come of it.
+#[derive(Clone, Copy)]
+enum Ask {
+    Store(Stored),
+    StoreMissing(Stored),
+    Invalidate,
+    Clear,
+    Kind(Option<Kind>),
+    Find(Option<Option<Digest>>),
+}
+
+fn assert_asked<R: Retain>(
+    rt: &impl Abort,
+    alloc: Global,
+    retained: &mut R,
+    text: &str,
+    ask: Ask,
+) -> Result<(), Fail> {
+    let path = Path::parse(alloc, text.as_bytes())?;
+    match ask {
+        Ask::Store(want) => {
+            let file = Snapshot::File(file_digest(text.as_bytes()));
+            assert_eq!(rt; retained.store(&path, file)?, want, "{text}");
+        }
+        Ask::StoreMissing(want) => {
+            assert_eq!(rt; retained.store(&path, Snapshot::Missing)?, want, "{text}");
+        }
+        Ask::Invalidate => retained.invalidate(&path)?,
+        Ask::Clear => retained.clear()?,
+        Ask::Kind(want) => assert_eq!(rt; retained.kind(&path), want, "{text}"),
+        Ask::Find(want) => {
+            let found = retained.find(&path).map(|glance| glance.digest);
+            assert_eq!(rt; found, want, "{text}");
+            let part = retained.part(&path)?;
+            assert_eq!(rt; part.map(|part| part.digest()), want, "{text}");
+        }
+    }
+    Ok(())
+}
