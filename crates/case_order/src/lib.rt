@@ -10,3 +10,6 @@ pub use case::{order, same};
 pub use share::{NoMemory, Share, share_all};
 pub use shared::Shared;
 pub use vfs_model::Case;
+
+#[cfg(test)]
+mod tests;

@@ -14,3 +14,6 @@ pub fn shares_with_threads(bytes: &Bytes, digest: &Digest) {
 }
 
 fn shareable<T: Send + Sync>(_value: &T) {}
+
+#[cfg(test)]
+mod tests;
