@@ -1,9 +1,9 @@
 -- Putting a pair, or a directory, in its place.
-use Rattle.std.proofs.Common.{◌≡◌, ℕ, suc, zero, ◌+◌, ◌<◌, Bool, true, false, ◌&&◌, not, List, [], ◌∷◌, ◌++◌, length, drop, take, get_or, map, refl, sym, ap, ◌∙◌, add-one, drop-cons, arith, nat_cmp}
+use Rattle.std.proofs.Common.{◌≡◌, ℕ, suc, zero, ◌+◌, ◌-◌, ◌<◌, ◌≤◌, true, false, ◌&&◌, not, List, [], ◌∷◌, ◌++◌, length, drop, take, get_or, refl, sym, ap, ◌∙◌, add-one, drop-cons, arith, nat_cmp}
 use Rattle.std.proofs.lemmas.List.{map-append, take-map, length-map, take_all, take-append-drop}
 use Rattle.std.specs.Ordering.{is_eq, is_lt}
 use Rattle.std.specs.Cmp.Lexicographic.{slice_cmp, texts_ties}
-use Rattle.std.specs.declared.cmp.Ordering.TheVariants.{Less, Equal, Greater}
+use Rattle.std.specs.declared.cmp.Ordering.TheVariants.{Equal}
 use Rattle.vfs_model.specs.declared.Case.{Case}
 use Rattle.vfs_model.specs.Paths.{Path, place, folded_name, is_same_name, is_at_or_above}
 use Rattle.vfs_model.specs.Retained.{place_order, precedes, insert_dir, insert_dirs, ancestors}
@@ -63,3 +63,12 @@ pub ancestors-next : (case : Case) (path : Path) (k : ℕ) (dirs : List Path) �
 ancestors-next case path k dirs h =
     let deep : k < length (place case path) = omega (arith, length-map path (folded_name case)) in
     rw (add-one, ancestors-more (place case path) k deep, take-map (folded_name case) k path) (insert_dirs-push (take k (ancestors (place case path))) (place case (take k path)) dirs)
+
+-- where it went in, the others are still to come
+pub ancestors-before : (case : Case) (path dir : Path) (n : ℕ) (before after : List Path) → 0 < n → n ≤ length path → dir ≡ take (n - 1) path → after ≡ insert_dir (place case dir) before
+    → insert_dirs (take (n - 1) (ancestors (place case path))) after ≡ insert_dirs (take n (ancestors (place case path))) before
+ancestors-before case path dir n before after some within is put =
+    let one_more : n - 1 + 1 ≡ n = omega arith in
+    let deep : n - 1 < length path = omega arith in
+    rw (put, is)
+    (sym (ancestors-next case path (n - 1) before deep) ∙ ap (λ k. insert_dirs (take k (ancestors (place case path))) before) one_more)
