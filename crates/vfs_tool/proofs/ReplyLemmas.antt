@@ -1,0 +1,65 @@
+-- What a call owes to its line.
+use Rattle.std.proofs.Common.{◌≡◌, ℕ, ◌+◌, ◌-◌, ◌<◌, ◌≤◌, ◌^◌, true, List, ◌++◌, map, Option, Some, None, refl, sym, ap, subst, ◌∙◌, arith}
+use Rattle.std.specs.Prelude.{is_some, codes}
+use Rattle.std.specs.Fmt.{decimal}
+use Rattle.vfs_model.specs.Paths.{Path}
+use Rattle.vfs_model.specs.World.{World}
+use Rattle.vfs_model.specs.Faults.{Rose}
+use Rattle.vfs_model.specs.Stands.{Parts, Stands}
+use Rattle.vfs_model.specs.Pending.{deliveries_due}
+use Rattle.vfs_model.specs.State.{State, Call, CallFind, Answers, Reply, Found, Glance, answers, told_step, step}
+use Rattle.world_model.specs.Meaning.{refusal_of, number_of}
+use Rattle.world_model.specs.declared.edit.EditError.{EditError}
+use Rattle.world_model.specs.declared.edit.EditError.TheVariants as error
+use Rattle.vfs_machine.specs.Steps.{IsStepOf, IsToldStepOf}
+use Rattle.vfs_tool.specs.Replies.{Tells, reply_text, number_of_refusal}
+use Rattle.vfs_tool.specs.Report.{Printed, by_call, settled, after_deliveries}
+use Rattle.vfs_tool.specs.Printing.{IsPrinted}
+use Rattle.vfs_tool.specs.Settling.{Settles}
+use Rattle.vfs_tool.proofs.SettleLemmas.{outcome-of}
+
+-- one table of numbers is the other
+pub refusal-number : (e : EditError) → number_of e ≡ number_of_refusal (refusal_of e)
+refusal-number error.Root = refl
+refusal-number error.NoParent = refl
+refusal-number error.NotDir = refl
+refusal-number error.Exists = refl
+refusal-number error.Absent = refl
+refusal-number error.IntoItself = refl
+refusal-number error.TooDeep = refl
+refusal-number error.Crowded = refl
+refusal-number error.ReadOnly = refl
+
+some-of : {A : Type 0} (o : Option A) → is_some o ≡ true → (x : A) × (o ≡ Some x)
+some-of None e = cc
+some-of (Some x) e = (x, refl)
+
+-- the text of a call's answer is what is printed, where the call is the step whatever the tree answers
+pub step-printed : {V : Type 0} (at : V → Path → ℕ) (count : V → ℕ) (old new : Parts V) (call : Call) (r : Reply) (text : List ℕ) → ((a : Answers) → IsStepOf at count old new a call r) → Tells text r
+    → IsPrinted at count old new (λ s. by_call s call) text
+step-printed at count old new call r text step told = λ s st.
+    let o = outcome-of r s (told_step s call) (Stands at count new) told.given (step (answers s call) s st) in
+    (told.told ∙ ap reply_text o.0, o.1)
+
+-- and where the tree tells its content
+pub told-printed : {V : Type 0} (at : V → Path → ℕ) (count : V → ℕ) (old new : Parts V) (call : Call) (r : Reply) (text : List ℕ) → is_some old.content ≡ true → IsToldStepOf at count old new call r → Tells text r
+    → IsPrinted at count old new (λ s. by_call s call) text
+told-printed at count old new call r text tells step told = λ s st.
+    let w = some-of old.content tells in
+    let o = outcome-of r s (told_step s call) (Stands at count new) told.given (step w.0 w.1 s st) in
+    (told.told ∙ ap reply_text o.0, o.1)
+
+-- a count that has no room does not rise
+pub none-rises : (before now most : ℕ) → most ≡ 0 → Rose before now → now ≤ most → ⊥
+none-rises before now most e rose le = omega arith
+
+-- a find leaves the machine as it is
+pub found-printed : {V : Type 0} (at : V → Path → ℕ) (count : V → ℕ) (m : Parts V) (p : Path) (found : Option Glance) (text : List ℕ)
+    → ((a : Answers) (s : State) → Stands at count m s → Found found ≡ (step a s (CallFind p)).reply) → Tells text (Found found) → IsPrinted at count m m (λ s. by_call s (CallFind p)) text
+found-printed at count m p found text step told = λ s st. (told.told ∙ ap reply_text (step (answers s (CallFind p)) s st), st)
+
+-- the deliveries that were made are those that were due
+pub settled-printed : {V : Type 0} (at : V → Path → ℕ) (count : V → ℕ) (old new : Parts V) (n : ℕ) (text : List ℕ) → Settles at count old new n → text ≡ codes "settled " ++ decimal n → IsPrinted at count old new settled text
+settled-printed at count old new n text h is = λ s st.
+    let due : n ≡ deliveries_due s.pending = h.all ∙ sym (ap deliveries_due st.pending) in
+    (is ∙ ap (λ k. codes "settled " ++ decimal k) due, subst (λ (k : ℕ). Stands at count new (after_deliveries k s)) due (h.stands s st))

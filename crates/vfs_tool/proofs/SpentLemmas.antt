@@ -1,0 +1,99 @@
+-- A line makes at most one more invalidation, made or due.
+use Rattle.std.proofs.Common.{◌≡◌, ℕ, ◌+◌, ◌<◌, ◌≤◌, ◌^◌, Bool, true, false, List, [], ◌∷◌, ◌++◌, length, Option, Some, None, refl, sym, ap, ◌∙◌, arith, length-append, if◌then◌else◌}
+use Rattle.std.specs.Prelude.{is_some}
+use Rattle.vfs_model.specs.Paths.{Path}
+use Rattle.vfs_model.specs.Edit.{Edit as ModelEdit, Write, Refusal, refusal}
+use Rattle.vfs_model.specs.Pending.{Pending, deliveries_due, put, has_room}
+use Rattle.vfs_model.specs.Retained.{is_covered}
+use Rattle.vfs_model.specs.Scanning.{Scan, Look, next_left, is_overtaken}
+use Rattle.vfs_model.specs.State.{State, edit_by, edit_answer_or, begin_or, read_or, read_next, publish_or, publish_next, publish_when, scan_of, look_due}
+use Rattle.vfs_model.specs.Paths.{place}
+use Rattle.vfs_model.specs.Stands.{Parts, Stands}
+use Rattle.world_model.specs.declared.edit.Edit.{Edit as EditValue}
+use Rattle.world_model.specs.declared.edit.Edit.TheVariants.{Write as WriteValue}
+use Rattle.world_model.specs.Meaning.{edit_of}
+use Rattle.script_reader.specs.declared.script.Command.{Command}
+use Rattle.script_reader.specs.declared.script.Command.TheVariants.{Edit, Settle, Begin, Read, Publish, Find}
+use Rattle.script_reader.specs.declared.script.Line.{Line}
+use Rattle.vfs_tool.specs.Report.{printed, printed_for}
+use Rattle.vfs_tool.specs.Printing.{IsReady}
+use Rattle.vfs_tool.proofs.SettleLemmas.{spent-after}
+
+-- the invalidations that were made, and those that are due
+abbrev pub spent : State → ℕ
+spent s = length s.past + deliveries_due s.pending
+
+-- ---- one call
+
+put-by : (e : Path) (p : Pending) (room : Bool)
+    → deliveries_due (if room then record { events = p.events ++ e ∷ []; capacity = p.capacity; mark = p.mark } else record { events = []; capacity = p.capacity; mark = true }) ≤ deliveries_due p + 1
+put-by e p true = let l = length-append p.events (e ∷ []) in omega (arith, l)
+put-by e p false = omega arith
+
+put-due : (e : Path) (p : Pending) → deliveries_due (put e p) ≤ deliveries_due p + 1
+put-due e p = put-by e p (has_room p)
+
+edit-by : (s : State) (p : Path) (bytes : List ℕ) (r : Option Refusal) → spent (edit_by s (Write p bytes) (edit_answer_or (Write p bytes) r)).state ≤ spent s + 1
+edit-by s p bytes None = let d = put-due p s.pending in omega (arith, d)
+edit-by s p bytes (Some r) = omega arith
+
+begin-spent : (s : State) (c : ℕ) (p : Path) (o : Option Scan) → spent (begin_or s c p o).state ≡ spent s
+begin-spent s c p None = refl
+begin-spent s c p (Some scan) = refl
+
+next-spent : (s : State) (c : ℕ) (scan : Scan) (y : Option Path) (l : Option Look) → spent (read_next s c scan y l).state ≡ spent s
+next-spent s c scan None l = refl
+next-spent s c scan (Some y) None = refl
+next-spent s c scan (Some y) (Some l) = refl
+
+read-spent : (s : State) (c : ℕ) (o : Option Scan) (l : Option Look) → spent (read_or s c o l).state ≡ spent s
+read-spent s c None l = refl
+read-spent s c (Some scan) l = next-spent s c scan (next_left scan.partial) l
+
+when-spent : (s : State) (c : ℕ) (scan : Scan) (overtaken covered : Bool) → spent (publish_when s c scan overtaken covered).state ≡ spent s
+when-spent s c scan true covered = refl
+when-spent s c scan false true = refl
+when-spent s c scan false false = refl
+
+left-spent : (s : State) (c : ℕ) (scan : Scan) (y : Option Path) → spent (publish_next s c scan y).state ≡ spent s
+left-spent s c scan (Some y) = refl
+left-spent s c scan None = when-spent s c scan (is_overtaken s.case s.past scan) (is_covered s.retained.pairs (place s.case scan.path))
+
+publish-spent : (s : State) (c : ℕ) (o : Option Scan) → spent (publish_or s c o).state ≡ spent s
+publish-spent s c None = refl
+publish-spent s c (Some scan) = left-spent s c scan (next_left scan.partial)
+
+-- ---- a line
+
+pub command-spent : (s : State) (caller : ℕ) (command : Command) → spent (printed_for s caller command).state ≤ spent s + 1
+command-spent s caller (Edit (WriteValue p bytes)) = edit-by s p bytes (refusal s.case s.world (Write p bytes))
+command-spent s caller Settle = let e = spent-after (deliveries_due s.pending) s in omega (arith, e)
+command-spent s caller (Begin p) = let e = begin-spent s caller p (scan_of s caller) in omega (arith, e)
+command-spent s caller Read = let e = read-spent s caller (scan_of s caller) (look_due s (scan_of s caller)) in omega (arith, e)
+command-spent s caller Publish = let e = publish-spent s caller (scan_of s caller) in omega (arith, e)
+command-spent s caller (Find p) = omega arith
+
+-- the machine has made, or has due, as many as the state that it stands for
+spent-same : {V : Type 0} (at : V → Path → ℕ) (count : V → ℕ) (m : Parts V) (s : State) → Stands at count m s → count m.versions + deliveries_due m.pending ≡ spent s
+spent-same at count m s st = let p = st.past in let a = p.number in let b = ap deliveries_due st.pending in omega (arith, a, b)
+
+-- after a line the machine has room for one line less
+pub ready-next : {V : Type 0} (at : V → Path → ℕ) (count : V → ℕ) (old new : Parts V) (line : Line) (n : ℕ) → is_some new.content ≡ is_some old.content
+    → ((s : State) → Stands at count old s → Stands at count new (printed s line).state) → IsReady at count old (n + 1) → IsReady at count new n
+ready-next at count old new line n tells run r =
+    let after = run r.state r.stands in
+    record {
+      state = (printed r.state line).state;
+      stands = after;
+      tells = tells ∙ r.tells;
+      room =
+          let a = spent-same at count old r.state r.stands in
+          let b = spent-same at count new (printed r.state line).state after in
+          let c = command-spent r.state line.caller line.command in
+          let d = r.room in
+          omega (arith, a, b, c, d);
+    }
+
+-- room for more is room for fewer
+pub ready-less : {V : Type 0} (at : V → Path → ℕ) (count : V → ℕ) (m : Parts V) (n k : ℕ) → k ≤ n → IsReady at count m n → IsReady at count m k
+ready-less at count m n k le r = record { state = r.state; stands = r.stands; tells = r.tells; room = let d = r.room in omega (arith, d) }

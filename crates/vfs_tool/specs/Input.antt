@@ -1,0 +1,36 @@
+-- What was taken from a source.
+use Rattle.std.specs.Prelude.{◌≡◌, ℕ, ◌+◌, ◌≤◌, List, ◌++◌, length}
+use Rattle.std.specs.declared.option.Option.{Option}
+use Rattle.std.specs.Io.KnownBytes.{Consumes, IsAtEnd}
+use Rattle.vfs_model.specs.Faults.{Rose}
+use Rattle.vfs_tool.specs.declared.input.Stop.{Stop}
+use Rattle.vfs_tool.specs.declared.input.Stop.TheVariants.{Fault, TooLong, NoMemory}
+
+-- the most bytes of a script
+abbrev pub limit : ℕ
+limit = 16777216
+
+-- all that was left was taken, and it is this text, within the limit
+pub record TakesAll (old new : Option (List ℕ)) (text : List ℕ) : Type 0 where
+  pub took : Consumes old new text
+  pub end : IsAtEnd new
+  pub fits : length text ≤ limit
+
+-- some bytes were taken
+abbrev pub TakesSome : Option (List ℕ) → Option (List ℕ) → (ℕ → Type 0) → Type 0
+TakesSome old new Fits = (bytes : List ℕ) × Consumes old new bytes × Fits (length bytes)
+
+-- n bytes, at most so many, went from the source to the end of the text, and none only at the end
+pub record Takes (old new : Option (List ℕ)) (text now : List ℕ) (n most : ℕ) : Type 0 where
+  pub piece : List ℕ
+  pub moved : Consumes old new piece
+  pub grown : now ≡ text ++ piece
+  pub count : length piece ≡ n
+  pub within : n ≤ most
+  pub end : n ≡ 0 → IsAtEnd new
+
+-- why a run stopped as it took bytes, of which so many were allowed
+abbrev pub Stops : ℕ → ℕ → Option (List ℕ) → Option (List ℕ) → ℕ → Stop → Type 0
+Stops before now old new most Fault = Rose before now × TakesSome old new (λ n. n ≤ most)
+Stops before now old new most TooLong = TakesSome old new (λ n. n ≡ most + 1)
+Stops before now old new most NoMemory = TakesSome old new (λ n. n ≤ most + 1)

@@ -1,0 +1,9 @@
+pub mod Spelling
+pub mod Replies
+pub mod Report
+pub mod Printing
+pub mod Settling
+pub mod Statuses
+pub mod Input
+pub mod Output
+pub mod Run

@@ -1,0 +1,54 @@
+-- What a run took from its source and put into its sink.
+use Rattle.std.specs.Prelude.{◌≡◌, ℕ, List, [], ◌∷◌, take, map, codes, string_bytes, String}
+use Rattle.std.specs.declared.option.Option.{Option}
+use Rattle.std.specs.List.{concat}
+use Rattle.std.specs.Global.{Global}
+use Rattle.std.specs.Io.KnownBytes.{Appends}
+use Rattle.script_reader.specs.declared.script.Script.{Script}
+use Rattle.script_reader.specs.declared.script.TextKind.TheVariants.{Replay}
+use Rattle.script_reader.specs.Grammar.{IsTextOf, FirstBad}
+use Rattle.vfs_tool.specs.Input.{TakesAll}
+use Rattle.vfs_tool.specs.Report.{lines_of, report_of}
+use Rattle.vfs_tool.specs.declared.status.Status.{Status}
+use Rattle.vfs_tool.specs.declared.status.Status.TheVariants.{Done, BadScript, Usage, ReadFault, WriteFault, NoMemory, TooLong}
+
+-- the words of a replay
+abbrev pub IsReplay : List (String Global) → Type 0
+IsReplay words = map string_bytes words ≡ codes "replay" ∷ []
+
+-- ---- what was put for a text
+
+-- the text is that of a script, and the whole report on it was put
+abbrev pub PutsReport : List ℕ → Option (List ℕ) → Option (List ℕ) → Type 0
+PutsReport text before after = (s : Script) × IsTextOf Replay text s × Appends before after (report_of s)
+
+-- the text is that of a script, and a prefix of the report on it was put
+abbrev pub PutsPrefix : List ℕ → Option (List ℕ) → Option (List ℕ) → Type 0
+PutsPrefix text before after = (s : Script) × (n : ℕ) × IsTextOf Replay text s × Appends before after (take n (report_of s))
+
+-- the text is that of a script, and the first k lines of the report on it were put, whole
+abbrev pub PutsLines : List ℕ → Option (List ℕ) → Option (List ℕ) → Type 0
+PutsLines text before after = (s : Script) × (k : ℕ) × IsTextOf Replay text s × Appends before after (concat (take k (lines_of s)))
+
+-- ---- what was taken, and put for it
+
+abbrev pub Reports : (old new : Option (List ℕ)) → (before after : Option (List ℕ)) → Type 0
+Reports old new before after = (text : List ℕ) × TakesAll old new text × PutsReport text before after
+
+abbrev pub ReportsPrefix : (old new : Option (List ℕ)) → (before after : Option (List ℕ)) → Type 0
+ReportsPrefix old new before after = (text : List ℕ) × TakesAll old new text × PutsPrefix text before after
+
+abbrev pub ReportsLines : (old new : Option (List ℕ)) → (before after : Option (List ℕ)) → Type 0
+ReportsLines old new before after = (text : List ℕ) × TakesAll old new text × PutsLines text before after
+
+-- ---- the answers that an input has
+
+-- Done for the text of a script, and its first bad line for any other text, or want of memory
+abbrev pub Answers : List ℕ → Status → Type 0
+Answers input Done = (s : Script) × IsTextOf Replay input s
+Answers input (BadScript bad) = FirstBad Replay input bad
+Answers input NoMemory = Unit {0}
+Answers input Usage = ⊥
+Answers input ReadFault = ⊥
+Answers input WriteFault = ⊥
+Answers input TooLong = ⊥

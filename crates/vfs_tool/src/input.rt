@@ -1,0 +1,62 @@
+//! Taking the input.
+
+ghost use Rattle.std.specs.Prelude.{◌≡◌, ◌-◌, ◌<◌, ◌≤◌, length, IfOk, IfErr};
+ghost use Rattle.vfs_tool.specs.Input.{Stops, Takes, TakesAll, limit};
+
+use std::alloc::Global;
+use vfs_io::Source;
+
+/// The most bytes of a script.
+const LIMIT: usize = 16_777_216;
+
+/// The most bytes of one take.
+const TAKE: usize = 65_536;
+
+/// Why the input was not taken to its end.
+#[derive(Clone, Copy, Debug, PartialEq, Eq)]
+pub(crate) enum Stop {
+    /// The source failed.
+    Fault,
+    /// It had more bytes than a script may have.
+    TooLong,
+    /// Want of memory.
+    NoMemory,
+}
+
+/// One take, of at most the buffer's length, at the end of the text.
+fn take_more<S: Source>(source: &mut S, text: &mut Vec<u8>, buf: &mut [u8]) -> Result<usize, Stop>
+    requires { 0 < length buf.old }
+    ensures ok { IfOk result (λ n. Takes (S.left source.old) (S.left source.new) text.old.items text.new.items n (length buf.old)) }
+    ensures err { IfErr result (λ e. Stops (S.faults source.old) (S.faults source.new) (S.left source.old) (S.left source.new) (length buf.old - 1) e) }
+    ensures short { IfErr result (λ e. e ≡ Stop.TooLong → ⊥) }
+    ensures later { S.faults source.old ≤ S.faults source.new }
+{
+    match source.take(buf) {
+        Ok(count) => match text.extend_from_slice(&buf[..count]) {
+            Ok(()) => Ok(count),
+            Err(_) => Err(Stop::NoMemory),
+        },
+        Err(_) => Err(Stop::Fault),
+    }
+}
+
+/// All that the source has left.
+///
+/// `TooLong` comes once one byte more than the limit was taken, `Fault` only where the source's
+/// count of faults rose in this call; the only other error is want of memory.
+pub(crate) fn take_all<S: Source>(alloc: Global, source: &mut S) -> Result<Vec<u8>, Stop>
+    ensures ok { IfOk result (λ text. TakesAll (S.left source.old) (S.left source.new) text.items) }
+    ensures err { IfErr result (λ e. Stops (S.faults source.old) (S.faults source.new) (S.left source.old) (S.left source.new) limit e) }
+    ensures later { S.faults source.old ≤ S.faults source.new }
+{
+    let mut text = Vec::new(alloc);
+    let mut buf = [0u8; TAKE];
+    'takes: while text.len() <= LIMIT {
+        let room = TAKE.min(LIMIT + 1 - text.len());
+        let count = take_more(source, &mut text, &mut buf[..room])?;
+        if count == 0 {
+            return Ok(text);
+        }
+    }
+    Err(Stop::TooLong)
+}

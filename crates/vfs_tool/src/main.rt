@@ -1,0 +1,47 @@
+//! `vfs`: replays a script of edits, scans and finds over a tree in memory, and reports on each line.
+//!
+//! `run` is the program as a call: words, a source and a sink in, a status out. `input` takes the
+//! script, `replay` runs its lines on a machine, `report` has their texts, and `output` puts them.
+#![tactic(auto)]
+
+mod input;
+pub mod laws;
+mod output;
+mod replay;
+mod report;
+mod run;
+mod spelling;
+mod status;
+
+use status::Status;
+use std::env;
+use std::io::{self, Write};
+use std::process::ExitCode;
+use vfs_io::{StdSink, StdSource};
+
+#[cfg(test)]
+mod tests;
+
+/// The words after the program's name; none where one of them is no text or cannot be had.
+fn words(rt: &HostRuntime) -> io::Result<Vec<String>> {
+    env::args(rt)?.skip(1).collect(rt.alloc())
+}
+
+/// Runs the program on the process's own input and output.
+fn status(rt: &HostRuntime) -> Status {
+    let Ok(words) = words(rt) else {
+        return Status::Usage;
+    };
+    let mut source = StdSource::over(rt.stdin());
+    let mut sink = StdSink::over(rt.stdout());
+    run::run(rt.alloc(), words.as_slice(), &mut source, &mut sink)
+}
+
+fn main(rt: HostRuntime) -> ExitCode {
+    let status = status(&rt);
+    if status != Status::Done {
+        // Nobody is left to be told where standard error takes no text.
+        let _ = eprintln!(rt; "{status}");
+    }
+    ExitCode::from(status.number())
+}
