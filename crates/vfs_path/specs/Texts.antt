@@ -12,6 +12,10 @@ use Rattle.vfs_path.specs.declared.error.PathError.TheVariants.{NotAbsolute, Emp
 abbrev pub stands_in_path : ℕ → Bool
 stands_in_path b = not (b == 0) && not (b == 10)
 
+-- the bytes may all stand in the text of a path, and are UTF-8
+abbrev pub has_path_bytes : List ℕ → Bool
+has_path_bytes text = list_all stands_in_path text && is_utf8 text
+
 -- the byte separates the names of a path
 abbrev pub is_slash : ℕ → Bool
 is_slash b = b == 47
@@ -84,6 +88,11 @@ segments [] = []
 segments (b ∷ []) = []
 segments (b ∷ c ∷ text) = slice_split is_slash (c ∷ text)
 
+-- the parts of what follows a slash, where there is one
+abbrev pub parts_after : Option (List ℕ) → List (List ℕ)
+parts_after None = []
+parts_after (Some rest) = slice_split is_slash rest
+
 -- what is said against the segment that so many precede
 abbrev pub segment_refusal : ℕ → List ℕ → Option PathError
 segment_refusal before segment = first_refusal ((nat_le 64 before, TooDeep) ∷ spelling_refusals segment)
@@ -97,7 +106,7 @@ segments_refusal before (segment ∷ more) = or_refusal (segment_refusal before 
 abbrev pub path_refusal : List ℕ → Option PathError
 path_refusal text =
     or_refusal
-    (first_refusal ((not (is_absolute text), NotAbsolute) ∷ (not (list_all stands_in_path text && is_utf8 text), BadByte) ∷ []))
+    (first_refusal ((not (is_absolute text), NotAbsolute) ∷ (not (has_path_bytes text), BadByte) ∷ []))
     (segments_refusal 0 (segments text))
 
 -- a value, unless something is said against it

@@ -2,7 +2,10 @@
 
 ghost use Rattle.std.specs.Prelude.{◌≡◌};
 ghost use Rattle.vfs_path.specs.Errors.{number_of};
+ghost use Rattle.vfs_path.specs.declared.error.PathError.TheVariants.{NoMemory as NoMemoryError};
 
+use case_order::NoMemory;
+use std::alloc::AllocFailed;
 use thiserror::Error;
 
 /// Why a text is no name or no path, or why there is no path below one.
@@ -45,5 +48,21 @@ impl PathError {
             PathError::BadByte => 6,
             PathError::NoMemory => 7,
         }
+    }
+}
+
+impl From<NoMemory> for PathError {
+    ghost from_gives = { λ _ e. e ≡ NoMemoryError };
+
+    fn from(_: NoMemory) -> PathError {
+        PathError::NoMemory
+    }
+}
+
+impl<T: Drop> From<AllocFailed<T>> for PathError {
+    ghost from_gives = { λ _ e. e ≡ NoMemoryError };
+
+    fn from(_: AllocFailed<T>) -> PathError {
+        PathError::NoMemory
     }
 }

@@ -2,8 +2,10 @@
 #![tactic(auto)]
 
 mod error;
+pub mod laws;
 mod name;
 mod path;
+mod text;
 
 pub use error::PathError;
 pub use name::{Name, Names};
@@ -18,3 +20,4 @@ pub fn shares_with_threads(name: &Name, path: &Path, names: &Names, paths: &Path
 }
 
 fn shareable<T: Send + Sync>(_value: &T) {}
+

@@ -1,10 +1,10 @@
 //! Names.
 
-ghost use Rattle.std.specs.Prelude.{◌≡◌, ◌↔◌, ◌⊎◌, IfOk, IfErr, Ok, Err, Some, IsTrue, true};
+ghost use Rattle.std.specs.Prelude.{◌≡◌, ◌↔◌, ◌⊎◌, IfOk, IfErr, Ok, Err, Some, None, true};
 ghost use Rattle.std.specs.List.{list_all};
 ghost use Rattle.std.specs.Str.{is_utf8};
 ghost use Rattle.vfs_path.specs.declared.error.PathError.TheVariants.{NoMemory as NoMemoryError};
-ghost use Rattle.vfs_path.specs.Texts.{IsName, stands_in_name, is_dots, name_of};
+ghost use Rattle.vfs_path.specs.Texts.{IsName, stands_in_name, is_dots, first_refusal, spelling_refusals, name_of};
 
 use crate::error::PathError;
 use case_order::{NoMemory, Share, Shared, share_all};
@@ -43,6 +43,16 @@ impl Name {
         if !(stand_in_name(text) && is_utf8(text)) {
             return Err(PathError::BadByte);
         }
+        Name::of_spelling(alloc, text)
+    }
+
+    /// The name with these bytes, which may all stand in a name.
+    pub(crate) fn of_spelling(alloc: Global, text: &[u8]) -> Result<Name, PathError>
+        requires bytes { list_all stands_in_name text.now ≡ true }
+        requires utf8 { is_utf8 text.now ≡ true }
+        ensures name { IfOk result (λ name. (name ≡ text.now) × (first_refusal (spelling_refusals text.now) ≡ None)) }
+        ensures refused { IfErr result (λ e. (e ≡ NoMemoryError) ⊎ (first_refusal (spelling_refusals text.now) ≡ Some e)) }
+    {
         if text.is_empty() {
             return Err(PathError::EmptyName);
         }
@@ -52,11 +62,12 @@ impl Name {
         if text.len() > 255 {
             return Err(PathError::LongName);
         }
-        Name::with_text(alloc, text).map_err(|_| PathError::NoMemory)
+        let name = Name::with_text(alloc, text)?;
+        Ok(name)
     }
 
     /// The name with these bytes, which are those of a name.
-    pub(crate) fn with_text(alloc: Global, text: &[u8]) -> Result<Name, NoMemory>
+    fn with_text(alloc: Global, text: &[u8]) -> Result<Name, NoMemory>
         requires { IsName text.now }
         ensures { IfOk result (λ name. name ≡ text.now) }
     {

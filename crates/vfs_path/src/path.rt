@@ -1,12 +1,17 @@
 //! Paths.
 
-ghost use Rattle.std.specs.Prelude.{◌≡◌, ◌≤◌, ◌<◌, [], length, slice_get};
-ghost use Rattle.vfs_model.specs.Paths.{place, is_at_or_above, is_related};
+ghost use Rattle.std.specs.Prelude.{◌≡◌, ◌⊎◌, ◌≤◌, ◌<◌, ◌↔◌, [], ◌∷◌, ◌++◌, length, take, slice_get, IfOk, IfErr, OnOk, OnErr, Ok, Err};
+ghost use Rattle.vfs_model.specs.Paths.{place, is_same_name, is_at_or_above, is_related};
 ghost use Rattle.vfs_model.specs.Retained.{place_order};
-ghost use Rattle.vfs_path.specs.Texts.{IsPath};
+ghost use Rattle.vfs_path.specs.declared.error.PathError.TheVariants.{NoMemory as NoMemoryError, TooDeep as TooDeepError};
+ghost use Rattle.std.specs.List.{common_prefix_len};
+ghost use Rattle.vfs_path.specs.Texts.{IsPath, path_of, path_text};
 
+use crate::error::PathError;
 use crate::name::{Name, Names};
+use crate::text::{after_slash, has_path_bytes, names_between, write_slashed};
 use case_order::{Case, NoMemory, Share, Shared, order, same, share_all};
+use std::alloc::Global;
 use std::cmp::Ordering;
 use std::marker::Model;
 
@@ -35,6 +40,99 @@ impl Path {
         ensures { result ≡ [] }
     {
         Path { names: None }
+    }
+
+    /// The path with this text.
+    ///
+    /// Refused, by the first that holds: `NotAbsolute` where the text does not begin with `/`;
+    /// `BadByte` where it has a byte 0 or LF or is not UTF-8; by the first of the segments behind
+    /// the first `/` that is at fault, `TooDeep` for the 65th whatever it holds, `EmptyName`,
+    /// `DotName`, `LongName`; and `NoMemory`. The text `/` has no segments.
+    pub fn parse(alloc: Global, text: &[u8]) -> Result<Path, PathError>
+        ensures path { IfOk result (λ p. path_of text.now ≡ Ok p) }
+        ensures refused { IfErr result (λ e. (e ≡ NoMemoryError) ⊎ (path_of text.now ≡ Err e)) }
+    {
+        let Some(rest) = after_slash(text) else {
+            return Err(PathError::NotAbsolute);
+        };
+        if !has_path_bytes(text) {
+            return Err(PathError::BadByte);
+        }
+        if rest.is_empty() {
+            return Ok(Path::root());
+        }
+        let names = names_between(alloc, rest)?;
+        let path = Path::with_names(alloc, names)?;
+        Ok(path)
+    }
+
+    /// Appends the text of the path: `/` for the root, and else a `/` and the name for each name.
+    ///
+    /// The only error is want of memory.
+    pub fn write(&self, out: &mut Vec<u8>) -> Result<(), NoMemory>
+        ensures ok { OnOk result (out.new.items ≡ out.old.items ++ path_text self.now) }
+        ensures err { OnErr result (out.new.items ≡ out.old.items) }
+    {
+        let names = self.as_slice();
+        if names.is_empty() {
+            out.push(b'/')?;
+            return Ok(());
+        }
+        let before = out.len();
+        let written = write_slashed(names, out);
+        if written.is_err() {
+            out.truncate(before);
+        }
+        written
+    }
+
+    /// The path with one more name at its end.
+    ///
+    /// `TooDeep` comes exactly where the path has 64 names; the only other error is want of memory.
+    pub fn child(&self, alloc: Global, name: &Name) -> Result<Path, PathError>
+        ensures child { IfOk result (λ child. child ≡ self.now ++ name.now ∷ []) }
+        ensures too_deep { (result ≡ Err PathError.TooDeep) ↔ (length self.now ≡ 64) }
+        ensures refused { IfErr result (λ e. (e ≡ NoMemoryError) ⊎ (e ≡ TooDeepError)) }
+    {
+        if self.len() >= 64 {
+            return Err(PathError::TooDeep);
+        }
+        let path = self.with_name(alloc, name)?;
+        Ok(path)
+    }
+
+    fn with_name(&self, alloc: Global, name: &Name) -> Result<Path, NoMemory>
+        requires { length self.now < 64 }
+        ensures { IfOk result (λ path. path ≡ self.now ++ name.now ∷ []) }
+    {
+        let mut names = share_all(alloc, self.as_slice())?;
+        names.push(name.share()?)?;
+        Path::with_names(alloc, names)
+    }
+
+    /// The path with the first `n` names.
+    ///
+    /// The only error is want of memory.
+    pub fn front(&self, alloc: Global, n: usize) -> Result<Path, NoMemory>
+        requires { n ≤ length self.now }
+        ensures { IfOk result (λ front. front ≡ take n self.now) }
+    {
+        let names = share_all(alloc, &self.as_slice()[..n])?;
+        Path::with_names(alloc, names)
+    }
+
+    /// The path with these names, which are at most 64.
+    fn with_names(alloc: Global, names: Vec<Name>) -> Result<Path, NoMemory>
+        requires { IsPath names.items }
+        ensures { IfOk result (λ path. path ≡ names.items) }
+    {
+        if names.is_empty() {
+            return Ok(Path::root());
+        }
+        match Shared::new(alloc, Names::from_vec(names)) {
+            Ok(names) => Ok(Path { names: Some(names) }),
+            Err((_, refused)) => Err(refused),
+        }
     }
 
     /// The names, from the root down.
@@ -78,6 +176,13 @@ impl Path {
         self.is_at_or_above(case, other) || other.is_at_or_above(case, self)
     }
 
+    /// How many names, from the root down, are one by one the same in both paths.
+    pub fn common(&self, case: Case, other: &Path) -> usize
+        ensures { result ≡ common_prefix_len is_same_name (place case self.now) (place case other.now) }
+    {
+        common_of(case, self.as_slice(), other.as_slice())
+    }
+
     /// The order of two paths, name by name: a path comes before all below it.
     pub fn order(&self, case: Case, other: &Path) -> Ordering
         ensures { result ≡ place_order (place case self.now) (place case other.now) }
@@ -97,6 +202,22 @@ fn begin_with(case: Case, front: &[Name], names: &[Name]) -> bool
             [name, rest @ ..] => {
                 same(case, first.as_bytes(), name.as_bytes()) && begin_with(case, more, rest)
             }
+        },
+    }
+}
+
+/// How many names, from the first on, two lists have alike.
+fn common_of(case: Case, a: &[Name], b: &[Name]) -> usize
+    ensures names { result ≡ common_prefix_len is_same_name (place case a.now) (place case b.now) }
+    ensures short { result ≤ length a.now }
+{
+    match a {
+        [] => 0,
+        [x, more_a @ ..] => match b {
+            [y, more_b @ ..] if same(case, x.as_bytes(), y.as_bytes()) => {
+                1 + common_of(case, more_a, more_b)
+            }
+            _ => 0,
         },
     }
 }

@@ -1,0 +1,4 @@
+pub mod Cuts
+pub mod Segments
+pub mod Written
+pub mod TextLaws
