@@ -1,0 +1,42 @@
+-- What the two lists of the flat form stand for.
+use Rattle.std.specs.Prelude.{List, map, refl, Option}
+use Rattle.std.specs.List.{find}
+use Rattle.std.specs.Coded.{Coded, code_by, coded×}
+use Rattle.vfs_model.specs.declared.Case.{Case}
+use Rattle.vfs_model.specs.Code.{case_code, retained_code}
+use Rattle.vfs_model.specs.Paths.{Path, place, is_at_or_above}
+use Rattle.vfs_model.specs.Retained.{Pair, Retained, insert_pair, insert_dirs, known_above}
+use Rattle.vfs_model.specs.Snapshot.{Snapshot}
+use Rattle.snapshot_tree.specs.Meaning.{meaning_of}
+use Rattle.snapshot_hierarchy.specs.declared.flat.Pair.{Pair as PairValue}
+use Rattle.snapshot_hierarchy.specs.Held.{Held}
+
+-- the place of the path, and the snapshot
+abbrev pub pair_of : Case → PairValue → Pair
+pair_of case pair = record { path = place case pair.path; snapshot = meaning_of pair.snapshot }
+
+-- each pair with its place
+abbrev pub pairs_of : Case → List PairValue → List Pair
+pairs_of case pairs = map (pair_of case) pairs
+
+-- the place of each path
+abbrev pub places_of : Case → List Path → List Path
+places_of case paths = map (place case) paths
+
+-- the lists, by the places of their paths
+abbrev pub held_of : Case → List PairValue → List Path → Held
+held_of case pairs dirs = record { case = case; retained = record { pairs = pairs_of case pairs; dirs = places_of case dirs } }
+
+abbrev pub held_code : Coded Held
+held_code = code_by (Case × Retained) (coded× case_code retained_code) (λ h. (h.case, h.retained)) (λ p. record { case = p.0; retained = p.1 }) (λ _. refl)
+
+-- the first pair at or above the path
+abbrev pub first_over : Case → Path → List PairValue → Option PairValue
+first_over case path pairs = find (λ (q : PairValue). is_at_or_above (place case q.path) (place case path)) pairs
+
+-- one pair more, with the directories that it makes known
+abbrev pub with_pair : Path → Snapshot → Retained → Retained
+with_pair p s retained = record {
+  pairs = insert_pair (record { path = p; snapshot = s }) retained.pairs;
+  dirs = insert_dirs (known_above p s) retained.dirs;
+}
