@@ -1,12 +1,12 @@
 -- What an invalidation leaves of pairs whose snapshots have no children.
-use Rattle.std.proofs.Common.{◌≡◌, ℕ, ◌+◌, ◌<◌, Bool, true, false, ◌&&◌, ◌||◌, not, List, [], ◌∷◌, ◌++◌, length, drop, take, get_or, map, filter, cond, refl, sym, ap, ◌∙◌, append_assoc, append-nil}
+use Rattle.std.proofs.Common.{◌≡◌, ℕ, ◌+◌, ◌<◌, Bool, true, false, ◌&&◌, ◌||◌, not, List, [], ◌∷◌, ◌++◌, length, drop, take, get_or, filter, cond, refl, sym, ap, append_assoc, append-nil}
 use Rattle.std.proofs.lemmas.Bool.{or_parts, true≢false}
 use Rattle.std.proofs.lemmas.List.{map-append, take_more}
 use Rattle.std.proofs.lemmas.List.Elements.{filter-append}
 use Rattle.vfs_model.specs.declared.Case.{Case}
 use Rattle.vfs_model.specs.Paths.{Path, place, is_at_or_above, is_related}
 use Rattle.vfs_model.specs.Snapshot.{Snapshot}
-use Rattle.vfs_model.specs.Retained.{Pair, Retained, pieces, dirs_from, insert_dirs, pairs_left, dirs_left, all_pairs_left, all_dirs_left, is_covered, after_invalidation, after_store}
+use Rattle.vfs_model.specs.Retained.{Pair, Retained, pieces, dirs_from, pairs_left, dirs_left, all_pairs_left, all_dirs_left, is_covered, after_invalidation, after_store}
 use Rattle.vfs_laws.proofs.Splits.{split}
 use Rattle.snapshot_tree.specs.declared.snapshot.Snapshot.{Snapshot as SnapshotValue}
 use Rattle.snapshot_tree.specs.declared.snapshot.Snapshot.TheVariants as value

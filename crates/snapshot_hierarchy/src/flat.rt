@@ -181,12 +181,7 @@ fn is_strictly_above(case: Case, a: &Path, b: &Path) -> bool
 }
 
 /// What an invalidation of the path leaves of the pairs.
-fn pairs_left(
-    alloc: Global,
-    case: Case,
-    pairs: &[Pair],
-    path: &Path,
-) -> Result<Vec<Pair>, NoMemory>
+fn pairs_left(alloc: Global, case: Case, pairs: &[Pair], path: &Path) -> Result<Vec<Pair>, NoMemory>
     ensures { IfOk result (λ left. pairs_of case left.items ≡ spec.all_pairs_left case (place case path.now) (pairs_of case pairs.now)) }
 {
     let mut left = Vec::new(alloc);
