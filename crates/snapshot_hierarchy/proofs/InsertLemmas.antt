@@ -58,17 +58,12 @@ insert_dirs-push [] d dirs = refl
 insert_dirs-push (q ∷ new) d dirs = ap (insert_dir q) (insert_dirs-push new d dirs)
 
 -- the deepest of the first goes in before the others
-pub ancestors-next : (case : Case) (path : Path) (k : ℕ) (dirs : List Path) → k < length path
-    → insert_dirs (take (k + 1) (ancestors (place case path))) dirs ≡ insert_dirs (take k (ancestors (place case path))) (insert_dir (place case (take k path)) dirs)
-ancestors-next case path k dirs h =
-    let deep : k < length (place case path) = omega (arith, length-map path (folded_name case)) in
-    rw (add-one, ancestors-more (place case path) k deep, take-map (folded_name case) k path) (insert_dirs-push (take k (ancestors (place case path))) (place case (take k path)) dirs)
-
--- where it went in, the others are still to come
-pub ancestors-before : (case : Case) (path dir : Path) (n : ℕ) (before after : List Path) → 0 < n → n ≤ length path → dir ≡ take (n - 1) path → after ≡ insert_dir (place case dir) before
-    → insert_dirs (take (n - 1) (ancestors (place case path))) after ≡ insert_dirs (take n (ancestors (place case path))) before
-ancestors-before case path dir n before after some within is put =
-    let one_more : n - 1 + 1 ≡ n = omega arith in
-    let deep : n - 1 < length path = omega arith in
-    rw (put, is)
-    (sym (ancestors-next case path (n - 1) before deep) ∙ ap (λ k. insert_dirs (take k (ancestors (place case path))) before) one_more)
+pub ancestors-next : (case : Case) (path dir : Path) (n : ℕ) (dirs more : List Path) → 0 < n → n ≤ length path → dir ≡ take (n - 1) path → more ≡ insert_dir (place case dir) dirs
+    → insert_dirs (take (n - 1) (ancestors (place case path))) more ≡ insert_dirs (take n (ancestors (place case path))) dirs
+ancestors-next case path dir zero dirs more some within is added = absurd (omega arith)
+ancestors-next case path dir (suc n) dirs more some within is added =
+    let deep : n < length (place case path) = omega (arith, length-map path (folded_name case)) in
+    let front : dir ≡ take n path = is ∙ ap (λ k. take k path) (omega arith) in
+    let fewer : suc n - 1 ≡ n = omega arith in
+    rw (fewer, added, front, ancestors-more (place case path) n deep, take-map (folded_name case) n path)
+    (sym (insert_dirs-push (take n (ancestors (place case path))) (place case (take n path)) dirs))
