@@ -1,6 +1,6 @@
 //! When a ticket is stale, and what a publication leaves, over lists.
 
-ghost use Rattle.std.specs.Prelude.{◌≡◌, ◌<◌, ◌^◌};
+ghost use Rattle.std.specs.Prelude.{◌≡◌, length};
 
 use crate::{Published, Vfs};
 use case_order::Case;
@@ -13,7 +13,7 @@ use version_hierarchy::FlatVersions;
 use vfs_path::Path;
 
 fn empty(alloc: Global) -> Vfs<FlatRetain, FlatVersions>
-    ensures { FlatVersions.count result.versions < 2 ^ 62 }
+    ensures { length result.versions.places ≡ 0 }
 {
     let retained = FlatRetain::new(alloc, Case::Insensitive);
     Vfs::make(retained, FlatVersions::new(alloc, Case::Insensitive))

@@ -44,6 +44,7 @@ use world_model::{
 /// the machine stands for before it, the machine stands afterwards for the state of the model's
 /// step, and the answer is that of the step. Where an answer is `NoMemory` the machine stands for
 /// the states that it stood for before.
+#[derive(Drop)]
 pub struct Machine<T: Tree, R: Retain, V: Versions> {
     tree: T,
     intake: Intake,

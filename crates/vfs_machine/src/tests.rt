@@ -1,6 +1,6 @@
 //! Scans of a tree in memory, from the edit to what is retained, and events that are lost.
 
-ghost use Rattle.std.specs.Prelude.{◌≡◌, ◌<◌, IfOk};
+ghost use Rattle.std.specs.Prelude.{◌≡◌, ◌<◌, IfOk, length};
 ghost use Rattle.vfs_machine.specs.Scans.{running_at, AreDigests};
 
 use crate::{Answer, Began, Delivered, Edited, Machine, Readed, digests_of};
@@ -28,7 +28,7 @@ fn write(alloc: Global, at: &str, text: &str) -> Result<Edit, Fail> {
 
 /// A machine over an empty tree, with a queue for two events.
 fn machine(alloc: Global) -> Result<Machine<MemTree, FlatRetain, FlatVersions>, NoMemory>
-    ensures { IfOk result (λ m. FlatVersions.count m.versions ≡ 0) }
+    ensures { IfOk result (λ m. length m.versions.places ≡ 0) }
 {
     let made = Machine::make(
         alloc,
