@@ -44,7 +44,8 @@ fn settle<T: Tree, R: Retain, V: Versions + Drop>(
     let mut count = 0u64;
     loop {
         match machine.deliver() {
-            Delivered::Event(_) | Delivered::Cleared => count += 1,
+            Delivered::Event(_) => count += 1,
+            Delivered::Cleared => count += 1,
             Delivered::Nothing => return Ok(count),
             Delivered::NoMemory => return Err(NoMemory),
         }
