@@ -15,6 +15,7 @@ is_note (b ∷ bs) = b == 35
 abbrev pub hex_of : ℕ → Option ℕ
 hex_of b = if nat_le 48 b && nat_le b 57 then Some (b - 48) else if nat_le 97 b && nat_le b 102 then Some (b - 87) else if nat_le 65 b && nat_le b 70 then Some (b - 55) else None
 
+-- the byte of two digits, where both are digits
 abbrev pub hex_pair : Option ℕ → Option ℕ → Option ℕ
 hex_pair None low = None
 hex_pair (Some h) None = None

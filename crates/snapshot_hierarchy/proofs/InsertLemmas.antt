@@ -1,9 +1,9 @@
 -- Putting a pair, or a directory, in its place.
-use Rattle.std.proofs.Common.{◌≡◌, ℕ, suc, zero, ◌+◌, ◌<◌, Bool, true, false, ◌&&◌, not, List, [], ◌∷◌, ◌++◌, length, drop, take, get_or, map, refl, sym, ap, ◌∙◌, add-one, drop-cons, arith, nat_cmp}
+use Rattle.std.proofs.Common.{◌≡◌, ℕ, suc, zero, ◌+◌, ◌-◌, ◌<◌, ◌≤◌, true, false, ◌&&◌, not, List, [], ◌∷◌, ◌++◌, length, drop, take, get_or, refl, sym, ap, ◌∙◌, add-one, drop-cons, arith, nat_cmp}
 use Rattle.std.proofs.lemmas.List.{map-append, take-map, length-map, take_all, take-append-drop}
 use Rattle.std.specs.Ordering.{is_eq, is_lt}
 use Rattle.std.specs.Cmp.Lexicographic.{slice_cmp, texts_ties}
-use Rattle.std.specs.declared.cmp.Ordering.TheVariants.{Less, Equal, Greater}
+use Rattle.std.specs.declared.cmp.Ordering.TheVariants.{Equal}
 use Rattle.vfs_model.specs.declared.Case.{Case}
 use Rattle.vfs_model.specs.Paths.{Path, place, folded_name, is_same_name, is_at_or_above}
 use Rattle.vfs_model.specs.Retained.{place_order, precedes, insert_dir, insert_dirs, ancestors}
@@ -58,8 +58,12 @@ insert_dirs-push [] d dirs = refl
 insert_dirs-push (q ∷ new) d dirs = ap (insert_dir q) (insert_dirs-push new d dirs)
 
 -- the deepest of the first goes in before the others
-pub ancestors-next : (case : Case) (path : Path) (k : ℕ) (dirs : List Path) → k < length path
-    → insert_dirs (take (k + 1) (ancestors (place case path))) dirs ≡ insert_dirs (take k (ancestors (place case path))) (insert_dir (place case (take k path)) dirs)
-ancestors-next case path k dirs h =
-    let deep : k < length (place case path) = omega (arith, length-map path (folded_name case)) in
-    rw (add-one, ancestors-more (place case path) k deep, take-map (folded_name case) k path) (insert_dirs-push (take k (ancestors (place case path))) (place case (take k path)) dirs)
+pub ancestors-next : (case : Case) (path dir : Path) (n : ℕ) (dirs more : List Path) → 0 < n → n ≤ length path → dir ≡ take (n - 1) path → more ≡ insert_dir (place case dir) dirs
+    → insert_dirs (take (n - 1) (ancestors (place case path))) more ≡ insert_dirs (take n (ancestors (place case path))) dirs
+ancestors-next case path dir zero dirs more some within is added = absurd (omega arith)
+ancestors-next case path dir (suc n) dirs more some within is added =
+    let deep : n < length (place case path) = omega (arith, length-map path (folded_name case)) in
+    let front : dir ≡ take n path = is ∙ ap (λ k. take k path) (omega arith) in
+    let fewer : suc n - 1 ≡ n = omega arith in
+    rw (fewer, added, front, ancestors-more (place case path) n deep, take-map (folded_name case) n path)
+    (sym (insert_dirs-push (take n (ancestors (place case path))) (place case (take n path)) dirs))

@@ -1,12 +1,12 @@
 -- What an invalidation leaves of pairs whose snapshots have no children.
-use Rattle.std.proofs.Common.{◌≡◌, ℕ, ◌+◌, ◌<◌, Bool, true, false, ◌&&◌, ◌||◌, not, List, [], ◌∷◌, ◌++◌, length, drop, take, get_or, map, filter, cond, refl, sym, ap, ◌∙◌, append_assoc, append-nil}
+use Rattle.std.proofs.Common.{◌≡◌, ℕ, ◌+◌, ◌<◌, Bool, true, false, ◌&&◌, ◌||◌, not, List, [], ◌∷◌, ◌++◌, length, drop, take, get_or, filter, cond, refl, sym, ap, append_assoc, append-nil}
 use Rattle.std.proofs.lemmas.Bool.{or_parts, true≢false}
 use Rattle.std.proofs.lemmas.List.{map-append, take_more}
 use Rattle.std.proofs.lemmas.List.Elements.{filter-append}
 use Rattle.vfs_model.specs.declared.Case.{Case}
 use Rattle.vfs_model.specs.Paths.{Path, place, is_at_or_above, is_related}
 use Rattle.vfs_model.specs.Snapshot.{Snapshot}
-use Rattle.vfs_model.specs.Retained.{Pair, Retained, pieces, dirs_from, insert_dirs, pairs_left, dirs_left, all_pairs_left, all_dirs_left, is_covered, after_invalidation, after_store}
+use Rattle.vfs_model.specs.Retained.{Pair, Retained, pieces, dirs_from, pairs_left, dirs_left, all_pairs_left, all_dirs_left, is_covered, after_invalidation, after_store}
 use Rattle.vfs_laws.proofs.Splits.{split}
 use Rattle.snapshot_tree.specs.declared.snapshot.Snapshot.{Snapshot as SnapshotValue}
 use Rattle.snapshot_tree.specs.declared.snapshot.Snapshot.TheVariants as value
@@ -26,12 +26,13 @@ dirs_from-childless case p s [] = refl
 dirs_from-childless case p value.Missing (n ∷ x) = refl
 dirs_from-childless case p (value.File digest) (n ∷ x) = refl
 
-right_of_or : (a b : Bool) → (a || b) ≡ true → a ≡ false → b ≡ true
+right_of_or : (a b : Bool) → not (a || b) ≡ false → a ≡ false → b ≡ true
 right_of_or true b h e = absurd (true≢false e)
-right_of_or false b h e = h
+right_of_or false true h e = refl
+right_of_or false false h e = absurd (true≢false h)
 
 -- nothing is left of a pair that has to do with the place
-pub pairs_left-related : (case : Case) (e : Path) (pair : PairValue) → is_related e (place case pair.path) ≡ true → pairs_left case e (pair_of case pair) ≡ []
+pub pairs_left-related : (case : Case) (e : Path) (pair : PairValue) → not (is_related e (place case pair.path)) ≡ false → pairs_left case e (pair_of case pair) ≡ []
 pairs_left-related case e pair h =
     split (is_at_or_above e (place case pair.path))
     (λ s. rw s refl)

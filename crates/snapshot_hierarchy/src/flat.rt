@@ -2,7 +2,7 @@
 
 ghost use Rattle.std.specs.Prelude.{◌≡◌, ◌++◌, ◌&&◌, not, filter, IfOk, OnOk};
 ghost use Rattle.std.specs.Option.{option_map};
-ghost use Rattle.vfs_model.specs.Paths.{place, is_at_or_above, is_same_place};
+ghost use Rattle.vfs_model.specs.Paths.{place, is_at_or_above, is_related, is_same_place};
 ghost use Rattle.vfs_model.specs.Retained as spec;
 ghost use Rattle.snapshot_tree.specs.Meaning.{meaning_of};
 ghost use Rattle.snapshot_hierarchy.specs.Held.{nothing};
@@ -181,12 +181,7 @@ fn is_strictly_above(case: Case, a: &Path, b: &Path) -> bool
 }
 
 /// What an invalidation of the path leaves of the pairs.
-fn pairs_left(
-    alloc: Global,
-    case: Case,
-    pairs: &[Pair],
-    path: &Path,
-) -> Result<Vec<Pair>, NoMemory>
+fn pairs_left(alloc: Global, case: Case, pairs: &[Pair], path: &Path) -> Result<Vec<Pair>, NoMemory>
     ensures { IfOk result (λ left. pairs_of case left.items ≡ spec.all_pairs_left case (place case path.now) (pairs_of case pairs.now)) }
 {
     let mut left = Vec::new(alloc);
@@ -196,15 +191,22 @@ fn pairs_left(
     Ok(left)
 }
 
-/// Appends what an invalidation of the path leaves of one pair. A file, and what is missing, has no
-/// parts: where they have to do with the path, nothing is left.
+/// Appends what an invalidation of the path leaves of one pair: nothing, where the path is above it
+/// or below, since a file and what is missing have no children beside the way.
 fn add_left(case: Case, left: &mut Vec<Pair>, pair: &Pair, path: &Path) -> Result<(), NoMemory>
     ensures { OnOk result (pairs_of case left.new.items ≡ pairs_of case left.old.items ++ spec.pairs_left case (place case path.now) (pair_of case pair.now)) }
 {
-    if !path.related(case, &pair.path) {
+    if stays(case, pair, path) {
         left.push(pair.share()?)?;
     }
     Ok(())
+}
+
+/// Whether the pair has nothing to do with the path.
+fn stays(case: Case, pair: &Pair, path: &Path) -> bool
+    ensures { result ≡ not (is_related (place case path.now) (place case pair.now.path)) }
+{
+    !path.related(case, &pair.path)
 }
 
 /// The directories that are not at or below the path.

@@ -48,3 +48,40 @@ fn assert_asked<R: Retain>(
     }
     Ok(())
 }
+
+fn digest_of(text: &str) -> Option<Option<Digest>> {
+    Some(Some(file_digest(text.as_bytes())))
+}
+
+#[test]
+fn files_are_kept_until_they_are_invalidated(rt: HostRuntime) -> Result<(), Fail> {
+    let alloc = rt.alloc();
+    let mut retained = FlatRetain::new(alloc, Case::Insensitive);
+    for (text, ask) in [
+        ("/d/a", Ask::Kind(None)),
+        ("/d/a", Ask::Find(None)),
+        ("/d/a", Ask::Store(Stored::Kept)),
+        ("/D/A", Ask::Find(digest_of("/d/a"))),
+        ("/d/a/b", Ask::Find(Some(None))),
+        ("/d", Ask::Find(None)),
+        ("/d", Ask::Kind(Some(Kind::Dir))),
+        ("/", Ask::Kind(Some(Kind::Dir))),
+        ("/e", Ask::Kind(None)),
+        ("/d", Ask::Store(Stored::Kept)),
+        ("/d/a", Ask::Find(Some(None))),
+        ("/d", Ask::Kind(Some(Kind::File))),
+        ("/d/a", Ask::Store(Stored::Covered)),
+        ("/d/a", Ask::Invalidate),
+        ("/d", Ask::Find(None)),
+        ("/", Ask::Kind(Some(Kind::Dir))),
+        ("/c", Ask::StoreMissing(Stored::Kept)),
+        ("/c", Ask::Kind(Some(Kind::Missing))),
+        ("/", Ask::Clear),
+        ("/c", Ask::Find(None)),
+        ("/", Ask::Kind(None)),
+    ] {
+        assert_asked(&rt, alloc, &mut retained, text, ask)?;
+    }
+    assert_eq!(rt; retained.case(), Case::Insensitive);
+    Ok(())
+}

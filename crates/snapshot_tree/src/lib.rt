@@ -2,6 +2,8 @@
 #![tactic(auto)]
 
 mod snapshot;
+#[cfg(test)]
+mod tests;
 
 pub use snapshot::{Glance, Snapshot};
 pub use vfs_model::Kind;

@@ -2,6 +2,8 @@
 #![tactic(auto)]
 
 mod flat;
+#[cfg(test)]
+mod tests;
 mod versions;
 
 pub use flat::FlatVersions;

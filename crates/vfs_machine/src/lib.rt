@@ -2,8 +2,12 @@
 #![tactic(auto)]
 
 mod answers;
+mod digests;
 mod machine;
 mod scan;
+#[cfg(test)]
+mod tests;
 
 pub use answers::{Answer, Began, Delivered, Edited, Readed};
+pub use digests::digests_of;
 pub use machine::Machine;

@@ -14,7 +14,7 @@ pub fn paths_give_texts()
     ensures { (path : Path) → IsPath path → path_of (path_text path) ≡ Ok path }
 {}
 
-/// What is read from a text keeps the limits of paths.
-pub fn texts_give_paths_only()
+/// A path that is read from a text has at most 64 names, each 1 to 255 bytes that may stand in one.
+pub fn texts_keep_the_limits()
     ensures { (text : List ℕ) (path : Path) → path_of text ≡ Ok path → IsPath path }
 {}

@@ -21,3 +21,5 @@ pub fn shares_with_threads(name: &Name, path: &Path, names: &Names, paths: &Path
 
 fn shareable<T: Send + Sync>(_value: &T) {}
 
+#[cfg(test)]
+mod tests;

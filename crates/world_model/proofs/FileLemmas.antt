@@ -14,7 +14,7 @@ use Rattle.vfs_model.specs.Edit.{Write, Refusal, Crowded, NoParent, NotDir, refu
 use Rattle.vfs_model.specs.Scanning.{look, look_of, SeesNothing, SeesFile}
 use Rattle.vfs_laws.proofs.Splits.{split, split_option}
 use Rattle.vfs_laws.proofs.PathLemmas.{same_name-true, same_place-true, same_place-refl}
-use Rattle.vfs_laws.proofs.NameLemmas.{same_place-last, listed_name-names}
+use Rattle.vfs_laws.proofs.NameLemmas.{same_place-last, listed_in-names}
 use Rattle.vfs_laws.proofs.FewLemmas.{length-insert_new, accepted-world}
 use Rattle.world_model.specs.declared.mem_tree.MemFile.{MemFile}
 use Rattle.world_model.specs.Files.{entry_of, world_of, is_named}
@@ -108,7 +108,7 @@ count case [] h = refl
 count case (f ∷ files) h =
     let rest : length (names case (map entry_of files) []) ≡ length files = count case files h.1 in
     let one_more : length (insert_name case f.name (names case (map entry_of files) [])) ≡ length (names case (map entry_of files) []) + 1 =
-    length-insert_new case f.name (names case (map entry_of files) []) (listed_name-names case (map entry_of files) [] (folded_name case f.name) ∙ ap spelling_of (apart-none case f files h.0)) in
+    length-insert_new case f.name (names case (map entry_of files) []) (listed_in-names case (map entry_of files) [] (folded_name case f.name) ∙ ap spelling_of (apart-none case f files h.0)) in
     omega arith
 
 -- as many names as files

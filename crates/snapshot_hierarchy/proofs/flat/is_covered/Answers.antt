@@ -1,4 +1,4 @@
-use Rattle.std.proofs.Common.{◌≡◌, ◌∙◌, ◌&&◌, not, sym, rules, tests}
+use Rattle.std.proofs.Common.{◌∙◌, ◌&&◌, not, sym, rules, tests}
 use Rattle.std.proofs.lemmas.Iterator.{YieldsList-from_slice}
 use Rattle.std.proofs.lemmas.Iterator.Search.{any_from_yields_List}
 use Rattle.vfs_model.specs.Paths.{Path, place, is_at_or_above}

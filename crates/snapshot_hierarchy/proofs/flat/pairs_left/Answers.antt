@@ -1,4 +1,4 @@
-use Rattle.std.proofs.Common.{◌≡◌, ◌++◌, ap}
+use Rattle.std.proofs.Common.{◌++◌, ap}
 use Rattle.vfs_model.specs.Paths.{place}
 use Rattle.vfs_model.specs.Retained.{pairs_left}
 use Rattle.snapshot_hierarchy.specs.Flat.{pair_of}

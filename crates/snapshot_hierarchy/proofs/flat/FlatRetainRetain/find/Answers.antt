@@ -1,4 +1,4 @@
-use Rattle.std.proofs.Common.{◌≡◌, ◌∙◌, ap, sym, Some, None, arith}
+use Rattle.std.proofs.Common.{◌∙◌, ap, arith}
 use Rattle.vfs_model.specs.State.{glance}
 use Rattle.snapshot_hierarchy.specs.Flat.{first_over}
 use Rattle.snapshot_hierarchy.proofs.FindLemmas.{first-short, part-of_first, part-of_none}

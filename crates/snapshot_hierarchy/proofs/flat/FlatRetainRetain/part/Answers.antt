@@ -1,4 +1,4 @@
-use Rattle.std.proofs.Common.{◌≡◌, ◌∙◌, ap, sym, Some, None, arith}
+use Rattle.std.proofs.Common.{◌∙◌, ap, Some, arith}
 use Rattle.snapshot_hierarchy.specs.Flat.{first_over}
 use Rattle.snapshot_hierarchy.proofs.FindLemmas.{first-short, part-of_first, part-of_none}
 use Rattle.snapshot_hierarchy.proofs.flat.FlatRetainRetain.part.Goals as goal

@@ -1,0 +1,35 @@
+//! Versions after invalidations.
+
+use crate::{FlatVersions, Versions};
+use case_order::Case;
+use std::alloc::Global;
+use std::test::Fail;
+use vfs_path::Path;
+
+/// The version of the path with this text.
+fn at<V: Versions>(alloc: Global, versions: &V, text: &str) -> Result<u64, Fail> {
+    let path = Path::parse(alloc, text.as_bytes())?;
+    Ok(versions.at(&path))
+}
+
+#[test]
+fn versions_are_of_what_is_related(rt: HostRuntime) -> Result<(), Fail> {
+    let alloc = rt.alloc();
+    let none = FlatVersions::new(alloc, Case::Insensitive);
+    let one = none.raised(&Path::parse(alloc, b"/a")?)?;
+    let two = one.raised(&Path::parse(alloc, b"/A/b")?)?;
+    for (text, after_one, after_two) in [
+        ("/a/b/c", 1, 2),
+        ("/a", 1, 2),
+        ("/a/x", 1, 1),
+        ("/b", 0, 0),
+        ("/", 1, 2),
+    ] {
+        assert_eq!(rt; at(alloc, &none, text)?, 0, "{text}");
+        assert_eq!(rt; at(alloc, &one, text)?, after_one, "{text}");
+        assert_eq!(rt; at(alloc, &two, text)?, after_two, "{text}");
+    }
+    assert_eq!(rt; two.count(), 2);
+    assert_eq!(rt; two.case(), Case::Insensitive);
+    Ok(())
+}
