@@ -1,6 +1,0 @@
-use Rattle.std.proofs.Common.{◌≡◌, map, take}
-use Rattle.vfs_model.specs.World.{digest_of_bytes}
-use Rattle.vfs_tool.proofs.replay.digests_of.Given as goal
-
-abbrev pub invariant-loop-bytes : goal.invariant-loop-bytes
-invariant-loop-bytes l = l.digests.items ≡ map digest_of_bytes (take l.bytes-index l.contents)
