@@ -5,7 +5,10 @@ use Rattle.vfs_model.specs.Pending.{deliveries_due}
 use Rattle.vfs_model.specs.State.{State, Answers, CallDeliver, Reply, NothingPending, Outcome, deliver, deliver_when, deliver_first, told_step, answers}
 use Rattle.vfs_model.specs.Stands.{Parts, Stands}
 use Rattle.vfs_model.specs.History.{is_no_memory}
-use Rattle.vfs_machine.specs.Steps.{IsStepOf, IsOutcome, outcome_unless}
+use Rattle.vfs_machine.specs.declared.answers.Delivered.{Delivered}
+use Rattle.vfs_machine.specs.declared.answers.Delivered.TheVariants as delivered
+use Rattle.vfs_machine.specs.Deliveries.{Counts}
+use Rattle.vfs_machine.specs.Steps.{IsStepOf, IsOutcome, outcome_unless, delivered_reply}
 use Rattle.vfs_tool.specs.Report.{after_deliveries}
 use Rattle.vfs_tool.specs.Settling.{is_delivery, EndsAfterDue, Delivers, Settles}
 
@@ -88,7 +91,7 @@ pub none-delivered : {V : Type 0} (at : V → Path → ℕ) (count : V → ℕ) 
 none-delivered at count m = record { stands = λ s st. st; due = omega arith; invalidated = omega arith }
 
 -- one more was delivered
-pub next-delivered : {V : Type 0} (at : V → Path → ℕ) (count : V → ℕ) (old mid new : Parts V) (n : ℕ) (r : Reply) → is_no_memory r ≡ false → ((a : Answers) → IsStepOf at count mid new a CallDeliver r)
+next-delivered : {V : Type 0} (at : V → Path → ℕ) (count : V → ℕ) (old mid new : Parts V) (n : ℕ) (r : Reply) → is_no_memory r ≡ false → ((a : Answers) → IsStepOf at count mid new a CallDeliver r)
     → count new.versions ≡ count mid.versions + 1 → deliveries_due mid.pending ≡ deliveries_due new.pending + 1 → Delivers at count old mid n → Delivers at count old new (n + 1)
 next-delivered at count old mid new n r given step more due h = record {
   stands = λ s st.
@@ -98,6 +101,15 @@ next-delivered at count old mid new n r given step more due h = record {
   due = let d = h.due in omega (arith, d, due);
   invalidated = let i = h.invalidated in omega (arith, i, more);
 }
+
+-- the machine answered that something was delivered
+pub more-delivered : {V : Type 0} (at : V → Path → ℕ) (count : V → ℕ) (old mid new : Parts V) (n : ℕ) (answer : Delivered) → is_delivery (delivered_reply answer) ≡ true
+    → ((a : Answers) → IsStepOf at count mid new a CallDeliver (delivered_reply answer)) → Counts answer (count mid.versions) (count new.versions) (deliveries_due mid.pending) (deliveries_due new.pending) → Delivers at count old mid n
+    → Delivers at count old new (n + 1)
+more-delivered at count old mid new n (delivered.Event p) is step counts h = next-delivered at count old mid new n (delivered_reply (delivered.Event p)) refl step counts.invalidated counts.due h
+more-delivered at count old mid new n delivered.Cleared is step counts h = next-delivered at count old mid new n (delivered_reply delivered.Cleared) refl step counts.invalidated counts.due h
+more-delivered at count old mid new n delivered.Nothing is step counts h = absurd cc
+more-delivered at count old mid new n delivered.NoMemory is step counts h = absurd cc
 
 -- nothing is pending any more
 pub all-delivered : {V : Type 0} (at : V → Path → ℕ) (count : V → ℕ) (old mid new : Parts V) (n : ℕ) → ((a : Answers) → IsStepOf at count mid new a CallDeliver NothingPending) → deliveries_due mid.pending ≡ 0

@@ -15,21 +15,21 @@ mod status;
 
 use status::Status;
 use std::env;
-use std::io::{self, Write};
 use std::process::ExitCode;
 use vfs_io::{StdSink, StdSource};
 
 #[cfg(test)]
 mod tests;
 
-/// The words after the program's name; none where one of them is no text or cannot be had.
-fn words(rt: &HostRuntime) -> io::Result<Vec<String>> {
-    env::args(rt)?.skip(1).collect(rt.alloc())
+/// The words after the program's name; none where one of them is no text, or they cannot be had.
+fn words(rt: &HostRuntime) -> Option<Vec<String>> {
+    let args = env::args(rt).ok()?;
+    args.skip(1).collect(rt.alloc()).ok()
 }
 
 /// Runs the program on the process's own input and output.
-fn status(rt: &HostRuntime) -> Status {
-    let Ok(words) = words(rt) else {
+fn run_process(rt: &HostRuntime) -> Status {
+    let Some(words) = words(rt) else {
         return Status::Usage;
     };
     let mut source = StdSource::over(rt.stdin());
@@ -38,7 +38,7 @@ fn status(rt: &HostRuntime) -> Status {
 }
 
 fn main(rt: HostRuntime) -> ExitCode {
-    let status = status(&rt);
+    let status = run_process(&rt);
     if status != Status::Done {
         // Nobody is left to be told where standard error takes no text.
         let _ = eprintln!(rt; "{status}");

@@ -1,7 +1,6 @@
 //! Command lines, run one after the other on a machine.
 
-ghost use Rattle.std.specs.Prelude.{◌≡◌, ◌<◌, ◌+◌, ◌^◌, true, length, map, IfOk, is_some};
-ghost use Rattle.vfs_model.specs.World.{digest_of_bytes};
+ghost use Rattle.std.specs.Prelude.{◌≡◌, ◌<◌, ◌+◌, ◌^◌, true, length, IfOk, is_some};
 ghost use Rattle.vfs_model.specs.Pending as pending;
 ghost use Rattle.vfs_model.specs.State as state;
 ghost use Rattle.world_model.specs.Meaning.{edit_of};
@@ -12,12 +11,12 @@ ghost use Rattle.vfs_tool.specs.Settling.{Settles};
 
 use crate::report::{began_text, edited_text, found_text, numbered, published_text, readed_text};
 use case_order::NoMemory;
-use merkle_hash::{Bytes, Digest, file_digest};
+use merkle_hash::Digest;
 use script_reader::{Command, Line};
 use snapshot_hierarchy::Retain;
 use std::alloc::Global;
 use version_hierarchy::Versions;
-use vfs_machine::{Delivered, Machine};
+use vfs_machine::{Delivered, Machine, digests_of};
 use vfs_path::Path;
 use world_model::{Edit, Tree};
 
@@ -44,7 +43,8 @@ fn settle<T: Tree, R: Retain, V: Versions + Drop>(
     let mut count = 0u64;
     loop {
         match machine.deliver() {
-            Delivered::Event(_) | Delivered::Cleared => count += 1,
+            Delivered::Event(_) => count += 1,
+            Delivered::Cleared => count += 1,
             Delivered::Nothing => return Ok(count),
             Delivered::NoMemory => return Err(NoMemory),
         }
@@ -89,16 +89,6 @@ fn read_line<T: Tree, R: Retain, V: Versions>(
     ensures tells { is_some machine.new.content ≡ is_some machine.old.content }
 {
     readed_text(alloc, &machine.read(caller))
-}
-
-fn digests_of(alloc: Global, contents: &[Bytes]) -> Result<Vec<Digest>, NoMemory>
-    ensures { IfOk result (λ digests. digests.items ≡ map digest_of_bytes contents.now) }
-{
-    let mut digests = Vec::new(alloc);
-    for bytes in contents {
-        digests.push(file_digest(bytes.as_slice()))?;
-    }
-    Ok(digests)
 }
 
 /// The digests of what the scan with the number read; none where it is closed.

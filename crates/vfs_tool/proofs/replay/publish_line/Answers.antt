@@ -4,7 +4,7 @@ use Rattle.vfs_machine.specs.Steps.{answer_reply}
 use Rattle.vfs_tool.proofs.ReplyLemmas.{step-printed}
 use Rattle.vfs_tool.proofs.replay.publish_line.Goals as goal
 
-pub returns-in_ok-digests-clause-printed : goal.returns-in_ok-digests-clause-printed
-returns-in_ok-digests-clause-printed g c =
+pub returns-clause-printed : goal.returns-clause-printed
+returns-clause-printed g c =
     IfOk-weaker c.published_text.result _ _ (λ text told. step-printed g.V.Versions.version g.V.Versions.count c.args.machine.now c.publish.new.self (CallPublish c.args.caller) (answer_reply c.publish.result) text.items c.publish.ensures.step told)
     c.published_text.ensures

@@ -4,11 +4,11 @@ use Rattle.vfs_model.specs.Pending.{deliveries_due}
 use Rattle.vfs_tool.specs.Settling.{Delivers}
 use Rattle.vfs_tool.proofs.replay.settle.Given as goal
 
-abbrev pub invariant-loop : goal.invariant-loop
-invariant-loop g l = record {
+abbrev pub invariant-loop-count : goal.invariant-loop-count
+invariant-loop-count g l = record {
   delivered : Delivers g.V.Versions.version g.V.Versions.count l.initial.machine l.machine l.count;
   tells : is_some l.machine.content ≡ is_some l.initial.machine.content;
 }
 
-abbrev pub decreases-loop : goal.decreases-loop
-decreases-loop g l = deliveries_due l.machine.pending
+abbrev pub decreases-loop-count : goal.decreases-loop-count
+decreases-loop-count g l = deliveries_due l.machine.pending
