@@ -1,15 +1,15 @@
 //! When a ticket is stale, and what a publication leaves, over lists.
 
-ghost use Rattle.std.specs.Prelude.{◌≡◌, length};
+ghost use Rattle.std.specs.Prelude.{◌≡◌, ◌<◌, ◌^◌, length};
 
 use crate::{Published, Vfs};
 use case_order::Case;
-use merkle_hash::file_digest;
-use snapshot_hierarchy::FlatRetain;
+use merkle_hash::{Digest, file_digest};
+use snapshot_hierarchy::{FlatRetain, Retain};
 use snapshot_tree::{Kind, Snapshot};
 use std::alloc::Global;
 use std::test::Fail;
-use version_hierarchy::FlatVersions;
+use version_hierarchy::{FlatVersions, Versions};
 use vfs_path::Path;
 
 fn empty(alloc: Global) -> Vfs<FlatRetain, FlatVersions>
@@ -27,6 +27,50 @@ fn file(text: &str) -> Snapshot {
     Snapshot::File(file_digest(text.as_bytes()))
 }
 
+/// Publishes the snapshot at the path, with a ticket of just now.
+fn publish<R: Retain, V: Versions>(
+    alloc: Global,
+    vfs: &mut Vfs<R, V>,
+    at: &str,
+    snapshot: Snapshot,
+) -> Result<Published, Fail> {
+    let ticket = vfs.begin(path(alloc, at)?);
+    Ok(vfs.publish(&ticket, snapshot))
+}
+
+/// Publishes at `/a/b`, after the path was invalidated.
+fn publish_after<R: Retain, V: Versions + Drop>(
+    alloc: Global,
+    vfs: &mut Vfs<R, V>,
+    at: &str,
+) -> Result<Published, Fail>
+    requires { V.count vfs.old.versions < 2 ^ 62 }
+{
+    let ticket = vfs.begin(path(alloc, "/a/b")?);
+    vfs.invalidate(&path(alloc, at)?)?;
+    Ok(vfs.publish(&ticket, file("x")))
+}
+
+/// The digest of what is found at the path.
+fn digest_at<R: Retain, V: Versions>(
+    alloc: Global,
+    vfs: &Vfs<R, V>,
+    at: &str,
+) -> Result<Option<Digest>, Fail> {
+    match vfs.find(&path(alloc, at)?) {
+        Some(glance) => Ok(glance.digest),
+        None => Ok(None),
+    }
+}
+
+fn kind_at<R: Retain, V: Versions>(
+    alloc: Global,
+    vfs: &Vfs<R, V>,
+    at: &str,
+) -> Result<Option<Kind>, Fail> {
+    Ok(vfs.kind(&path(alloc, at)?))
+}
+
 #[test]
 fn ticket_is_stale_where_a_related_path_was_invalidated(rt: HostRuntime) -> Result<(), Fail> {
     let alloc = rt.alloc();
@@ -39,23 +83,8 @@ fn ticket_is_stale_where_a_related_path_was_invalidated(rt: HostRuntime) -> Resu
         ("/b", Published::Stored),
     ] {
         let mut vfs = empty(alloc);
-        let ticket = vfs.begin(path(alloc, "/a/b")?);
-        vfs.invalidate(&path(alloc, at)?)?;
-        assert_eq!(rt; vfs.publish(&ticket, file("x")), want, "at {at}");
-        assert_eq!(rt; vfs.count(), 1);
+        assert_eq!(rt; publish_after(alloc, &mut vfs, at)?, want, "at {at}");
     }
-    Ok(())
-}
-
-#[test]
-fn lost_events_make_each_ticket_stale(rt: HostRuntime) -> Result<(), Fail> {
-    let alloc = rt.alloc();
-    let mut vfs = empty(alloc);
-    let ticket = vfs.begin(path(alloc, "/a")?);
-    vfs.drop_all()?;
-    assert_eq!(rt; vfs.publish(&ticket, file("x")), Published::Stale(1));
-    let again = vfs.begin(path(alloc, "/a")?);
-    assert_eq!(rt; vfs.publish(&again, file("x")), Published::Stored);
     Ok(())
 }
 
@@ -63,22 +92,32 @@ fn lost_events_make_each_ticket_stale(rt: HostRuntime) -> Result<(), Fail> {
 fn file_is_kept_above_what_lies_below_it(rt: HostRuntime) -> Result<(), Fail> {
     let alloc = rt.alloc();
     let mut vfs = empty(alloc);
-    let above = path(alloc, "/a/b")?;
-    let below = path(alloc, "/a/b/c")?;
-    let ticket = vfs.begin(above);
-    assert_eq!(rt; vfs.publish(&ticket, file("x")), Published::Stored);
-    let covered = vfs.begin(below);
-    assert_eq!(rt; vfs.publish(&covered, Snapshot::Missing), Published::Covered);
-    let at = path(alloc, "/A/B")?;
-    assert_eq!(rt; vfs.case(), Case::Insensitive);
-    assert_eq!(rt; vfs.version(&at), 0);
-    assert_eq!(rt; vfs.kind(&at), Some(Kind::File));
-    assert_eq!(rt; vfs.kind(&path(alloc, "/a")?), Some(Kind::Dir));
-    let digest = Some(Some(file_digest(b"x")));
-    assert_eq!(rt; vfs.find(&at).map(|glance| glance.digest), digest);
-    assert_eq!(rt; vfs.part(&at)?.map(|part| part.digest()), digest);
-    vfs.invalidate(&at)?;
-    assert_eq!(rt; vfs.find(&at).map(|glance| glance.digest), None);
-    assert_eq!(rt; vfs.kind(&path(alloc, "/a")?), Some(Kind::Dir));
+    assert_eq!(rt;
+        publish(alloc, &mut vfs, "/a/b", file("x"))?,
+        Published::Stored
+    );
+    assert_eq!(rt;
+        publish(alloc, &mut vfs, "/a/b/c", file("y"))?,
+        Published::Covered
+    );
+    assert_eq!(rt; digest_at(alloc, &vfs, "/A/B")?, Some(file_digest(b"x")));
+    assert_eq!(rt; kind_at(alloc, &vfs, "/a")?, Some(Kind::Dir));
+    assert_eq!(rt; vfs.count(), 0);
+    vfs.drop_all()?;
+    assert_eq!(rt; kind_at(alloc, &vfs, "/a")?, None);
+    assert_eq!(rt; vfs.count(), 1);
+    Ok(())
+}
+
+#[test]
+fn part_is_what_was_published(rt: HostRuntime) -> Result<(), Fail> {
+    let alloc = rt.alloc();
+    let mut vfs = empty(alloc);
+    assert_eq!(rt;
+        publish(alloc, &mut vfs, "/a", Snapshot::Missing)?,
+        Published::Stored
+    );
+    let part = vfs.part(&path(alloc, "/a/b")?)?;
+    assert!(rt; matches!(part, Some(Snapshot::Missing)));
     Ok(())
 }
