@@ -128,7 +128,7 @@ pub fn run<S: Source, K: Sink>(
     ensures no_memory { result ≡ Status.NoMemory →
         TakesSome (S.left source.old) (S.left source.new) (λ n. n ≤ limit + 1)
         × (Keeps (K.written sink.old) (K.written sink.new)
-           ⊎ ReportsLines (S.left source.old) (S.left source.new) (K.written sink.old) (K.written sink.new)) }
+        ⊎ ReportsLines (S.left source.old) (S.left source.new) (K.written sink.old) (K.written sink.new)) }
 
     // A known input within the limit is answered by what it is, unless a fault comes or memory runs out.
     ensures complete { IsReplay words.now
