@@ -1,9 +1,8 @@
 -- What a call owes to its line.
-use Rattle.std.proofs.Common.{◌≡◌, ℕ, ◌+◌, ◌-◌, ◌<◌, ◌≤◌, ◌^◌, true, List, ◌++◌, map, Option, Some, None, refl, sym, ap, subst, ◌∙◌, arith}
+use Rattle.std.proofs.Common.{◌≡◌, ℕ, ◌≤◌, true, List, ◌++◌, Option, Some, None, refl, sym, ap, subst, ◌∙◌, arith}
 use Rattle.std.specs.Prelude.{is_some, codes}
 use Rattle.std.specs.Fmt.{decimal}
 use Rattle.vfs_model.specs.Paths.{Path}
-use Rattle.vfs_model.specs.World.{World}
 use Rattle.vfs_model.specs.Faults.{Rose}
 use Rattle.vfs_model.specs.Stands.{Parts, Stands}
 use Rattle.vfs_model.specs.Pending.{deliveries_due}
@@ -13,7 +12,7 @@ use Rattle.world_model.specs.declared.edit.EditError.{EditError}
 use Rattle.world_model.specs.declared.edit.EditError.TheVariants as error
 use Rattle.vfs_machine.specs.Steps.{IsStepOf, IsToldStepOf}
 use Rattle.vfs_tool.specs.Replies.{Tells, reply_text, number_of_refusal}
-use Rattle.vfs_tool.specs.Report.{Printed, by_call, settled, after_deliveries}
+use Rattle.vfs_tool.specs.Report.{by_call, settled, after_deliveries}
 use Rattle.vfs_tool.specs.Printing.{IsPrinted}
 use Rattle.vfs_tool.specs.Settling.{Settles}
 use Rattle.vfs_tool.proofs.SettleLemmas.{outcome-of}

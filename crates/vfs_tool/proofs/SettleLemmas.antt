@@ -1,5 +1,5 @@
 -- Deliveries, one after the other.
-use Rattle.std.proofs.Common.{◌≡◌, ℕ, zero, suc, ◌+◌, ◌-◌, ◌<◌, Bool, true, false, List, [], ◌∷◌, ◌++◌, length, refl, sym, ap, subst, ◌∙◌, add-one, arith, length-append}
+use Rattle.std.proofs.Common.{◌≡◌, ℕ, zero, suc, ◌+◌, ◌-◌, ◌<◌, Bool, true, false, List, [], ◌∷◌, length, refl, sym, ap, subst, ◌∙◌, add-one, arith, length-append}
 use Rattle.vfs_model.specs.Paths.{Path, place}
 use Rattle.vfs_model.specs.Pending.{deliveries_due}
 use Rattle.vfs_model.specs.State.{State, Answers, CallDeliver, Reply, NothingPending, Outcome, deliver, deliver_when, deliver_first, told_step, answers}

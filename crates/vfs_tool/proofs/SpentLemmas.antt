@@ -1,17 +1,15 @@
 -- A line makes at most one more invalidation, made or due.
-use Rattle.std.proofs.Common.{◌≡◌, ℕ, ◌+◌, ◌<◌, ◌≤◌, ◌^◌, Bool, true, false, List, [], ◌∷◌, ◌++◌, length, Option, Some, None, refl, sym, ap, ◌∙◌, arith, length-append, if◌then◌else◌}
+use Rattle.std.proofs.Common.{◌≡◌, ℕ, ◌+◌, ◌≤◌, Bool, true, false, List, [], ◌∷◌, ◌++◌, length, Option, Some, None, refl, ap, ◌∙◌, arith, length-append, if◌then◌else◌}
 use Rattle.std.specs.Prelude.{is_some}
 use Rattle.vfs_model.specs.Paths.{Path}
-use Rattle.vfs_model.specs.Edit.{Edit as ModelEdit, Write, Refusal, refusal}
+use Rattle.vfs_model.specs.Edit.{Write, Refusal, refusal}
 use Rattle.vfs_model.specs.Pending.{Pending, deliveries_due, put, has_room}
 use Rattle.vfs_model.specs.Retained.{is_covered}
 use Rattle.vfs_model.specs.Scanning.{Scan, Look, next_left, is_overtaken}
 use Rattle.vfs_model.specs.State.{State, edit_by, edit_answer_or, begin_or, read_or, read_next, publish_or, publish_next, publish_when, scan_of, look_due}
 use Rattle.vfs_model.specs.Paths.{place}
 use Rattle.vfs_model.specs.Stands.{Parts, Stands}
-use Rattle.world_model.specs.declared.edit.Edit.{Edit as EditValue}
 use Rattle.world_model.specs.declared.edit.Edit.TheVariants.{Write as WriteValue}
-use Rattle.world_model.specs.Meaning.{edit_of}
 use Rattle.script_reader.specs.declared.script.Command.{Command}
 use Rattle.script_reader.specs.declared.script.Command.TheVariants.{Edit, Settle, Begin, Read, Publish, Find}
 use Rattle.script_reader.specs.declared.script.Line.{Line}

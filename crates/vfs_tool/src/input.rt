@@ -26,8 +26,11 @@ pub(crate) enum Stop {
 /// One take, of at most the buffer's length, at the end of the text.
 fn take_more<S: Source>(source: &mut S, text: &mut Vec<u8>, buf: &mut [u8]) -> Result<usize, Stop>
     requires { 0 < length buf.old }
-    ensures ok { IfOk result (λ n. Takes (S.left source.old) (S.left source.new) text.old.items text.new.items n (length buf.old)) }
-    ensures err { IfErr result (λ e. Stops (S.faults source.old) (S.faults source.new) (S.left source.old) (S.left source.new) (length buf.old - 1) e) }
+    ensures ok { IfOk result (λ n.
+        Takes (S.left source.old) (S.left source.new) text.old.items text.new.items n
+        (length buf.old)) }
+    ensures err { IfErr result (λ e. Stops (S.faults source.old) (S.faults source.new)
+        (S.left source.old) (S.left source.new) (length buf.old - 1) e) }
     ensures short { IfErr result (λ e. e ≡ Stop.TooLong → ⊥) }
     ensures later { S.faults source.old ≤ S.faults source.new }
 {
@@ -46,7 +49,8 @@ fn take_more<S: Source>(source: &mut S, text: &mut Vec<u8>, buf: &mut [u8]) -> R
 /// count of faults rose in this call; the only other error is want of memory.
 pub(crate) fn take_all<S: Source>(alloc: Global, source: &mut S) -> Result<Vec<u8>, Stop>
     ensures ok { IfOk result (λ text. TakesAll (S.left source.old) (S.left source.new) text.items) }
-    ensures err { IfErr result (λ e. Stops (S.faults source.old) (S.faults source.new) (S.left source.old) (S.left source.new) limit e) }
+    ensures err { IfErr result (λ e. Stops (S.faults source.old) (S.faults source.new)
+        (S.left source.old) (S.left source.new) limit e) }
     ensures later { S.faults source.old ≤ S.faults source.new }
 {
     let mut text = Vec::new(alloc);

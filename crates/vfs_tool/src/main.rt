@@ -1,4 +1,5 @@
-//! `vfs`: replays a script of edits, scans and finds over a tree in memory, and reports on each line.
+//! `vfs`: replays a script of edits, scans and finds over a tree in memory, and prints a line for
+//! each of its commands.
 //!
 //! `run` is the program as a call: words, a source and a sink in, a status out. `input` takes the
 //! script, `replay` runs its lines on a machine, `report` has their texts, and `output` puts them.

@@ -41,7 +41,8 @@ fn output_line<T: Tree, R: Retain, V: Versions + Drop>(
     requires line { CanRun line.now }
     requires ready { IsReady V.version V.count machine.old 1 }
     requires faultless { T.most_faults ≡ 0 }
-    ensures printed { IfOk result (λ text. IsPrinted V.version V.count machine.old machine.new (λ s. printed_line s line.now) text.items) }
+    ensures printed { IfOk result (λ text. IsPrinted V.version V.count machine.old machine.new
+        (λ s. printed_line s line.now) text.items) }
     ensures tells { is_some machine.new.content ≡ is_some machine.old.content }
 {
     let text = run_line(alloc, machine, line)?;
@@ -58,8 +59,10 @@ fn put_line<T: Tree, R: Retain, V: Versions + Drop, K: Sink>(
     requires line { CanRun line.now }
     requires ready { IsReady V.version V.count machine.old 1 }
     requires faultless { T.most_faults ≡ 0 }
-    ensures ok { OnOk result (RunsAll V.version V.count machine.old machine.new (line.now ∷ []) (K.written sink.old) (K.written sink.new)) }
-    ensures err { IfErr result (λ e. BreaksOff V.version V.count machine.old (line.now ∷ []) (K.faults sink.old) (K.faults sink.new) (K.written sink.old) (K.written sink.new) e) }
+    ensures ok { OnOk result (RunsAll V.version V.count machine.old machine.new (line.now ∷ [])
+        (K.written sink.old) (K.written sink.new)) }
+    ensures err { IfErr result (λ e. BreaksOff V.version V.count machine.old (line.now ∷ [])
+        (K.faults sink.old) (K.faults sink.new) (K.written sink.old) (K.written sink.new) e) }
     ensures tells { is_some machine.new.content ≡ is_some machine.old.content }
     ensures later { K.faults sink.old ≤ K.faults sink.new }
 {
@@ -85,8 +88,10 @@ pub(crate) fn run_lines<T: Tree, R: Retain, V: Versions + Drop, K: Sink>(
     requires lines { Each CanRun lines.now }
     requires ready { IsReady V.version V.count machine.old (length lines.now) }
     requires faultless { T.most_faults ≡ 0 }
-    ensures ok { OnOk result (RunsAll V.version V.count machine.old machine.new lines.now (K.written sink.old) (K.written sink.new)) }
-    ensures err { IfErr result (λ e. BreaksOff V.version V.count machine.old lines.now (K.faults sink.old) (K.faults sink.new) (K.written sink.old) (K.written sink.new) e) }
+    ensures ok { OnOk result (RunsAll V.version V.count machine.old machine.new lines.now
+        (K.written sink.old) (K.written sink.new)) }
+    ensures err { IfErr result (λ e. BreaksOff V.version V.count machine.old lines.now
+        (K.faults sink.old) (K.faults sink.new) (K.written sink.old) (K.written sink.new) e) }
     ensures later { K.faults sink.old ≤ K.faults sink.new }
 {
     for line in lines {

@@ -26,7 +26,8 @@ fn edit_line<T: Tree, R: Retain, V: Versions>(
     edit: &Edit,
 ) -> Result<Vec<u8>, NoMemory>
     requires { is_some machine.old.content ≡ true }
-    ensures printed { IfOk result (λ text. IsPrinted V.version V.count machine.old machine.new (λ s. by_call s (state.CallEdit (edit_of edit.now))) text.items) }
+    ensures printed { IfOk result (λ text. IsPrinted V.version V.count machine.old machine.new
+        (λ s. by_call s (state.CallEdit (edit_of edit.now))) text.items) }
     ensures tells { is_some machine.new.content ≡ is_some machine.old.content }
 {
     edited_text(alloc, machine.edit(edit))
@@ -56,7 +57,8 @@ fn settle_line<T: Tree, R: Retain, V: Versions + Drop>(
     machine: &mut Machine<T, R, V>,
 ) -> Result<Vec<u8>, NoMemory>
     requires { V.count machine.old.versions + pending.deliveries_due machine.old.pending < 2 ^ 62 }
-    ensures printed { IfOk result (λ text. IsPrinted V.version V.count machine.old machine.new settled text.items) }
+    ensures printed { IfOk result (λ text. IsPrinted V.version V.count machine.old machine.new
+        settled text.items) }
     ensures tells { is_some machine.new.content ≡ is_some machine.old.content }
 {
     let count = settle(machine)?;
@@ -71,7 +73,8 @@ fn begin_line<T: Tree, R: Retain, V: Versions>(
 ) -> Result<Vec<u8>, NoMemory>
     requires caller { caller < 16 }
     requires below { 0 < length path.now }
-    ensures printed { IfOk result (λ text. IsPrinted V.version V.count machine.old machine.new (λ s. by_call s (state.CallBegin caller path.now)) text.items) }
+    ensures printed { IfOk result (λ text. IsPrinted V.version V.count machine.old machine.new
+        (λ s. by_call s (state.CallBegin caller path.now)) text.items) }
     ensures tells { is_some machine.new.content ≡ is_some machine.old.content }
 {
     began_text(alloc, machine.begin(caller, path))
@@ -85,7 +88,8 @@ fn read_line<T: Tree, R: Retain, V: Versions>(
     requires caller { caller < 16 }
     requires content { is_some machine.old.content ≡ true }
     requires faultless { T.most_faults ≡ 0 }
-    ensures printed { IfOk result (λ text. IsPrinted V.version V.count machine.old machine.new (λ s. by_call s (state.CallRead caller)) text.items) }
+    ensures printed { IfOk result (λ text. IsPrinted V.version V.count machine.old machine.new
+        (λ s. by_call s (state.CallRead caller)) text.items) }
     ensures tells { is_some machine.new.content ≡ is_some machine.old.content }
 {
     readed_text(alloc, &machine.read(caller))
@@ -98,7 +102,8 @@ fn scan_digests<T: Tree, R: Retain, V: Versions>(
     scan: u64,
 ) -> Result<Vec<Digest>, NoMemory>
     requires { scan < 16 }
-    ensures { IfOk result (λ digests. AreDigests (running_at machine.now.scans scan) digests.items) }
+    ensures { IfOk result (λ digests.
+        AreDigests (running_at machine.now.scans scan) digests.items) }
 {
     match machine.contents(scan) {
         None => Ok(Vec::new(alloc)),
@@ -112,7 +117,8 @@ fn publish_line<T: Tree, R: Retain, V: Versions>(
     caller: u64,
 ) -> Result<Vec<u8>, NoMemory>
     requires { caller < 16 }
-    ensures printed { IfOk result (λ text. IsPrinted V.version V.count machine.old machine.new (λ s. by_call s (state.CallPublish caller)) text.items) }
+    ensures printed { IfOk result (λ text. IsPrinted V.version V.count machine.old machine.new
+        (λ s. by_call s (state.CallPublish caller)) text.items) }
     ensures tells { is_some machine.new.content ≡ is_some machine.old.content }
 {
     let digests = scan_digests(alloc, machine, caller)?;
@@ -124,7 +130,8 @@ fn find_line<T: Tree, R: Retain, V: Versions>(
     machine: &Machine<T, R, V>,
     path: &Path,
 ) -> Result<Vec<u8>, NoMemory>
-    ensures { IfOk result (λ text. IsPrinted V.version V.count machine.now machine.now (λ s. by_call s (state.CallFind path.now)) text.items) }
+    ensures { IfOk result (λ text. IsPrinted V.version V.count machine.now machine.now
+        (λ s. by_call s (state.CallFind path.now)) text.items) }
 {
     found_text(alloc, machine.find(path))
 }
@@ -140,7 +147,8 @@ pub(crate) fn run_line<T: Tree, R: Retain, V: Versions + Drop>(
     requires line { CanRun line.now }
     requires ready { IsReady V.version V.count machine.old 1 }
     requires faultless { T.most_faults ≡ 0 }
-    ensures printed { IfOk result (λ text. IsPrinted V.version V.count machine.old machine.new (λ s. printed s line.now) text.items) }
+    ensures printed { IfOk result (λ text. IsPrinted V.version V.count machine.old machine.new
+        (λ s. printed s line.now) text.items) }
     ensures tells { is_some machine.new.content ≡ is_some machine.old.content }
 {
     let caller = line.caller;

@@ -41,8 +41,10 @@ fn is_replay(words: &[String]) -> bool
 fn run_script<K: Sink>(alloc: Global, script: &Script, sink: &mut K) -> Result<(), Break>
     requires lines { Each CanRun script.now.lines }
     requires few { length script.now.lines < 2 ^ 61 }
-    ensures ok { OnOk result (Appends (K.written sink.old) (K.written sink.new) (report_of script.now)) }
-    ensures err { IfErr result (λ e. Breaks (K.faults sink.old) (K.faults sink.new) (K.written sink.old) (K.written sink.new) (lines_of script.now) e) }
+    ensures ok { OnOk result
+        (Appends (K.written sink.old) (K.written sink.new) (report_of script.now)) }
+    ensures err { IfErr result (λ e. Breaks (K.faults sink.old) (K.faults sink.new)
+        (K.written sink.old) (K.written sink.new) (lines_of script.now) e) }
     ensures later { K.faults sink.old ≤ K.faults sink.new }
 {
     let made = Machine::make(
@@ -63,10 +65,16 @@ fn run_script<K: Sink>(alloc: Global, script: &Script, sink: &mut K) -> Result<(
 /// Runs the script of a text.
 fn run_text<K: Sink>(alloc: Global, text: &[u8], sink: &mut K) -> Status
     requires { length text.now ≤ limit }
-    ensures done { result ≡ Status.Done → PutsReport text.now (K.written sink.old) (K.written sink.new) }
-    ensures bad { (b : BadLine) → result ≡ Status.BadScript b → FirstBad Replay text.now b × Keeps (K.written sink.old) (K.written sink.new) }
-    ensures write_fault { result ≡ Status.WriteFault → Rose (K.faults sink.old) (K.faults sink.new) × PutsPrefix text.now (K.written sink.old) (K.written sink.new) }
-    ensures no_memory { result ≡ Status.NoMemory → Keeps (K.written sink.old) (K.written sink.new) ⊎ PutsLines text.now (K.written sink.old) (K.written sink.new) }
+    ensures done { result ≡ Status.Done →
+        PutsReport text.now (K.written sink.old) (K.written sink.new) }
+    ensures bad { (b : BadLine) → result ≡ Status.BadScript b →
+        FirstBad Replay text.now b × Keeps (K.written sink.old) (K.written sink.new) }
+    ensures write_fault { result ≡ Status.WriteFault →
+        Rose (K.faults sink.old) (K.faults sink.new)
+        × PutsPrefix text.now (K.written sink.old) (K.written sink.new) }
+    ensures no_memory { result ≡ Status.NoMemory →
+        Keeps (K.written sink.old) (K.written sink.new)
+        ⊎ PutsLines text.now (K.written sink.old) (K.written sink.new) }
     ensures usage { result ≡ Status.Usage → ⊥ }
     ensures read_fault { result ≡ Status.ReadFault → ⊥ }
     ensures too_long { result ≡ Status.TooLong → ⊥ }
@@ -97,15 +105,17 @@ pub fn run<S: Source, K: Sink>(
     // Words of no form: nothing is taken and nothing is put.
     ensures usage { (result ≡ Status.Usage) ↔ (IsReplay words.now → ⊥) }
     ensures unused { result ≡ Status.Usage →
-        Keeps (S.left source.old) (S.left source.new) × Keeps (K.written sink.old) (K.written sink.new) }
+        Keeps (S.left source.old) (S.left source.new)
+        × Keeps (K.written sink.old) (K.written sink.new) }
 
-    // The input was taken to its end, it is the text of a script, and the whole report on it was put.
+    // The input was taken to its end, it is the text of a script, and the whole report was put.
     ensures done { result ≡ Status.Done →
         Reports (S.left source.old) (S.left source.new) (K.written sink.old) (K.written sink.new) }
 
     // The input was taken to its end, this is its first bad line, and nothing was put.
     ensures bad { (b : BadLine) → result ≡ Status.BadScript b →
-        ((text : List ℕ) × TakesAll (S.left source.old) (S.left source.new) text × FirstBad Replay text b)
+        ((text : List ℕ) × TakesAll (S.left source.old) (S.left source.new) text
+        × FirstBad Replay text b)
         × Keeps (K.written sink.old) (K.written sink.new) }
 
     // One byte more than the limit was taken, and nothing was put.
@@ -122,19 +132,23 @@ pub fn run<S: Source, K: Sink>(
     // The cause lies with the sink, and a prefix of the report was put.
     ensures write_fault { result ≡ Status.WriteFault →
         Rose (K.faults sink.old) (K.faults sink.new)
-        × ReportsPrefix (S.left source.old) (S.left source.new) (K.written sink.old) (K.written sink.new) }
+        × ReportsPrefix (S.left source.old) (S.left source.new)
+        (K.written sink.old) (K.written sink.new) }
 
     // Nothing was put, or whole lines of the report, from the first on.
     ensures no_memory { result ≡ Status.NoMemory →
         TakesSome (S.left source.old) (S.left source.new) (λ n. n ≤ limit + 1)
         × (Keeps (K.written sink.old) (K.written sink.new)
-           ⊎ ReportsLines (S.left source.old) (S.left source.new) (K.written sink.old) (K.written sink.new)) }
+        ⊎ ReportsLines (S.left source.old) (S.left source.new)
+        (K.written sink.old) (K.written sink.new)) }
 
-    // A known input within the limit is answered by what it is, unless a fault comes or memory runs out.
+    // A known input within the limit is answered by what it is, unless a fault comes or memory is
+    // wanting.
     ensures complete { IsReplay words.now
         → S.faults source.old ≡ S.faults source.new → S.faults source.old < 2 ^ 64 - 1
         → K.faults sink.old ≡ K.faults sink.new → K.faults sink.old < 2 ^ 64 - 1
-        → (input : List ℕ) → S.left source.old ≡ Some input → length input ≤ limit → Answers input result }
+        → (input : List ℕ) → S.left source.old ≡ Some input → length input ≤ limit
+        → Answers input result }
 
     ensures source_faults { S.faults source.old ≤ S.faults source.new }
     ensures sink_faults { K.faults sink.old ≤ K.faults sink.new }

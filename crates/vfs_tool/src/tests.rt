@@ -53,7 +53,8 @@ fn run_with(
 const STORED: &[u8] =
     b"0 write /f abc\n0 settle\n0 begin /f\n0 read\n0 read\n0 publish\n0 find /f\n";
 
-const STORED_REPORT: &[u8] = b"ok\nsettled 1\nversion 1\nsaw /f file left 0\ndone\nstored\nfile 900150983cd24fb0d6963f7d28e17f72\n";
+const STORED_REPORT: &[u8] =
+    b"ok\nsettled 1\nversion 1\nsaw /f file left 0\ndone\nstored\nfile 900150983cd24fb0d6963f7d28e17f72\n";
 
 #[test]
 fn reports_on_scripts(rt: HostRuntime) -> Result<(), Fail> {
@@ -97,7 +98,11 @@ fn overflows_its_queue(rt: HostRuntime) -> Result<(), Fail> {
     let mut report = Vec::new(alloc);
     for i in 0..1025usize {
         script.extend_from_slice(b"0 write /f abc\n")?;
-        report.extend_from_slice(if i < 1024 { b"ok\n".as_slice() } else { b"overflow\n".as_slice() })?;
+        report.extend_from_slice(if i < 1024 {
+            b"ok\n".as_slice()
+        } else {
+            b"overflow\n".as_slice()
+        })?;
     }
     script.extend_from_slice(b"0 settle\n")?;
     report.extend_from_slice(b"settled 1\n")?;
@@ -158,7 +163,10 @@ fn tells_what_stopped_it(rt: HostRuntime) -> Result<(), Fail> {
 fn takes_one_byte_past_its_limit(rt: HostRuntime) -> Result<(), Fail> {
     let alloc = rt.alloc();
     // Notes alone: the longest script, and one that is a byte longer; both have a byte to spare.
-    for (len, status, left) in [(16_777_216, Status::Done, 0), (16_777_218, Status::TooLong, 1)] {
+    for (len, status, left) in [
+        (16_777_216, Status::Done, 0),
+        (16_777_218, Status::TooLong, 1),
+    ] {
         let script = vec![in alloc; b'\n'; len]?;
         let ended = run_with(alloc, &["replay"], script.as_slice(), &[], &[])?;
         assert_eq!(rt; ended.status, status);

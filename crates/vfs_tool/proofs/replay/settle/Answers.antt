@@ -15,9 +15,9 @@ loop-count-preserved-after-deliver g c = record {
   delivered =
       elim c.match-deliver.branch [
         | in-Event w ↦
-          rw w.count-is (more-delivered g.V.Versions.version g.V.Versions.count c.args.machine.now c.loop-count.machine c.deliver.new.self c.loop-count.count c.deliver.result (rw w.in-Event.is refl) c.deliver.ensures.step c.deliver.ensures.counts c.loop-count.invariant.delivered)
+            rw w.count-is (more-delivered g.V.Versions.version g.V.Versions.count c.args.machine.now c.loop-count.machine c.deliver.new.self c.loop-count.count c.deliver.result (rw w.in-Event.is refl) c.deliver.ensures.step c.deliver.ensures.counts c.loop-count.invariant.delivered)
         | in-Cleared w ↦
-          rw w.count-is (more-delivered g.V.Versions.version g.V.Versions.count c.args.machine.now c.loop-count.machine c.deliver.new.self c.loop-count.count c.deliver.result (rw w.in-Cleared.is refl) c.deliver.ensures.step c.deliver.ensures.counts c.loop-count.invariant.delivered)
+            rw w.count-is (more-delivered g.V.Versions.version g.V.Versions.count c.args.machine.now c.loop-count.machine c.deliver.new.self c.loop-count.count c.deliver.result (rw w.in-Cleared.is refl) c.deliver.ensures.step c.deliver.ensures.counts c.loop-count.invariant.delivered)
       ];
   tells = ap (λ (t : TreeTold). is_some t.content) c.deliver.ensures.content ∙ c.loop-count.invariant.tells;
 }
@@ -27,9 +27,9 @@ loop-count-preserved-after-deliver-2 g c = record {
   delivered =
       elim c.match-deliver.branch [
         | in-Event w ↦
-          rw w.count-is (more-delivered g.V.Versions.version g.V.Versions.count c.args.machine.now c.loop-count.machine c.deliver.new.self c.loop-count.count c.deliver.result (rw w.in-Event.is refl) c.deliver.ensures.step c.deliver.ensures.counts c.loop-count.invariant.delivered)
+            rw w.count-is (more-delivered g.V.Versions.version g.V.Versions.count c.args.machine.now c.loop-count.machine c.deliver.new.self c.loop-count.count c.deliver.result (rw w.in-Event.is refl) c.deliver.ensures.step c.deliver.ensures.counts c.loop-count.invariant.delivered)
         | in-Cleared w ↦
-          rw w.count-is (more-delivered g.V.Versions.version g.V.Versions.count c.args.machine.now c.loop-count.machine c.deliver.new.self c.loop-count.count c.deliver.result (rw w.in-Cleared.is refl) c.deliver.ensures.step c.deliver.ensures.counts c.loop-count.invariant.delivered)
+            rw w.count-is (more-delivered g.V.Versions.version g.V.Versions.count c.args.machine.now c.loop-count.machine c.deliver.new.self c.loop-count.count c.deliver.result (rw w.in-Cleared.is refl) c.deliver.ensures.step c.deliver.ensures.counts c.loop-count.invariant.delivered)
       ];
   tells = ap (λ (t : TreeTold). is_some t.content) c.deliver.ensures.content ∙ c.loop-count.invariant.tells;
 }
@@ -39,10 +39,9 @@ loop-count-preserved g c = record {
   delivered =
       elim c.match-deliver.branch [
         | in-Event w ↦
-          rw w.count-is (more-delivered g.V.Versions.version g.V.Versions.count c.args.machine.now c.loop-count.machine c.deliver.new.self c.loop-count.count c.deliver.result (rw w.in-Event.is refl) c.deliver.ensures.step c.deliver.ensures.counts c.loop-count.invariant.delivered)
+            rw w.count-is (more-delivered g.V.Versions.version g.V.Versions.count c.args.machine.now c.loop-count.machine c.deliver.new.self c.loop-count.count c.deliver.result (rw w.in-Event.is refl) c.deliver.ensures.step c.deliver.ensures.counts c.loop-count.invariant.delivered)
         | in-Cleared w ↦
-          rw w.count-is (more-delivered g.V.Versions.version g.V.Versions.count c.args.machine.now c.loop-count.machine c.deliver.new.self c.loop-count.count c.deliver.result (rw w.in-Cleared.is refl) c.deliver.ensures.step c.deliver.ensures.counts c.loop-count.invariant.delivered)
+            rw w.count-is (more-delivered g.V.Versions.version g.V.Versions.count c.args.machine.now c.loop-count.machine c.deliver.new.self c.loop-count.count c.deliver.result (rw w.in-Cleared.is refl) c.deliver.ensures.step c.deliver.ensures.counts c.loop-count.invariant.delivered)
       ];
   tells = ap (λ (t : TreeTold). is_some t.content) c.deliver.ensures.content ∙ c.loop-count.invariant.tells;
 }
-
