@@ -1,5 +1,5 @@
 -- When a version has grown.
-use Rattle.std.proofs.Common.{◌≡◌, ℕ, ◌<◌, ◌≤◌, ◌↔◌, Bool, true, false, List, ◌++◌, sym, ◌∙◌, arith, subst}
+use Rattle.std.proofs.Common.{◌≡◌, ℕ, ◌<◌, ◌≤◌, true, false, List, ◌++◌, arith}
 use Rattle.std.specs.List.{list_any}
 use Rattle.vfs_model.specs.Paths.{Path, is_related}
 use Rattle.vfs_model.specs.Pending.{version}

@@ -1,11 +1,11 @@
 -- A machine that stands for a state still does after an edit.
-use Rattle.std.proofs.Common.{◌≡◌, ◌≢◌, ℕ, Bool, true, false, List, [], ◌∷◌, ◌++◌, Option, Some, None, refl, sym, ap, ◌∙◌, subst, if◌then◌else◌}
+use Rattle.std.proofs.Common.{◌≡◌, ℕ, Bool, List, [], ◌∷◌, ◌++◌, Option, Some, None, refl, sym, ap, ◌∙◌, subst, if◌then◌else◌}
 use Rattle.vfs_model.specs.declared.Case.{Case}
-use Rattle.vfs_model.specs.Paths.{Name, Path}
-use Rattle.vfs_model.specs.World.{World, Entry, IsDir, IsClosed, IsWorld, IsSameBelow, at as at_place, node_of, status_of, status_of_node}
+use Rattle.vfs_model.specs.Paths.{Path}
+use Rattle.vfs_model.specs.World.{World, Entry, IsClosed, IsWorld, IsSameBelow, at as at_place, node_of, status_of, status_of_node}
 use Rattle.vfs_model.specs.Edit.{Edit, Refusal, refusal, apply, events}
 use Rattle.vfs_model.specs.Pending.{Pending, put_all}
-use Rattle.vfs_model.specs.State.{State, Reply, Done, Overflow, Refused, EditAnswer, Does, Refuses, CallEdit, all_fit, after_edit, edit_by, edit_answer, edit_answer_or}
+use Rattle.vfs_model.specs.State.{State, Reply, Done, Overflow, Refused, EditAnswer, Does, CallEdit, all_fit, after_edit, edit_by, edit_answer, edit_answer_or}
 use Rattle.vfs_model.specs.Stands.{Parts, Stands}
 use Rattle.world_model.specs.Meaning.{refusal_of}
 use Rattle.world_model.specs.Told.{IsApplied}

@@ -1,11 +1,10 @@
 -- A machine stands for the opening state at first.
-use Rattle.std.proofs.Common.{◌≡◌, ℕ, zero, suc, List, [], ◌∷◌, replicate, Option, Some, None, refl, sym, ◌∙◌, subst}
+use Rattle.std.proofs.Common.{◌≡◌, ℕ, zero, suc, List, [], replicate, Option, Some, None, refl, sym, subst}
 use Rattle.vfs_model.specs.declared.Case.{Case}
 use Rattle.vfs_model.specs.Paths.{Path}
 use Rattle.vfs_model.specs.World.{World, IsSameBelow}
-use Rattle.vfs_model.specs.Scanning.{Scan}
 use Rattle.vfs_model.specs.History.{opening}
-use Rattle.vfs_model.specs.Stands.{StandsFor, RunningScan, Stands, AreSlotsOf}
+use Rattle.vfs_model.specs.Stands.{StandsFor, Stands, AreSlotsOf}
 use Rattle.world_model.specs.Told.{TreeTold}
 use Rattle.snapshot_hierarchy.specs.Held.{Held, nothing}
 use Rattle.vfs_machine.specs.Whole.{opening_parts}

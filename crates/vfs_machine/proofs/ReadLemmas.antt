@@ -1,11 +1,11 @@
 -- A machine that stands for a state still does after a read of a scan.
-use Rattle.std.proofs.Common.{◌≡◌, ℕ, ◌<◌, ◌≤◌, List, [], ◌∷◌, ◌++◌, length, Option, Some, None, IfSome, slice_set, refl, sym, ap, ◌∙◌, subst, append-nil}
+use Rattle.std.proofs.Common.{◌≡◌, ℕ, List, [], ◌++◌, Option, Some, None, IfSome, slice_set, refl, sym, ap, ◌∙◌, subst, append-nil}
 use Rattle.vfs_model.specs.declared.Case.{Case}
 use Rattle.vfs_model.specs.declared.Kind.{Kind}
 use Rattle.vfs_model.specs.Paths.{Path, place}
 use Rattle.vfs_model.specs.World.{World}
 use Rattle.vfs_model.specs.Scanning.{Scan, Look, look, next_left, count_left, after_look}
-use Rattle.vfs_model.specs.State.{State, NoScan, AllRead, Saw, Fault, Reply, scan_of, kind_of_look, read_or, read_next, look_due, look_due_at, look_below}
+use Rattle.vfs_model.specs.State.{State, NoScan, AllRead, Saw, Fault, scan_of, kind_of_look, read_or, read_next, look_due, look_due_at}
 use Rattle.vfs_model.specs.Stands.{RunningScan, Parts, Stands, IsScanOf, IsSlotOf}
 use Rattle.vfs_machine.specs.declared.scan.Next.TheVariants as to
 use Rattle.vfs_machine.specs.Scans.{running_at, IsNext, IsLocation}

@@ -1,5 +1,5 @@
 -- A machine that stands for a state still does after a delivery.
-use Rattle.std.proofs.Common.{◌≡◌, ℕ, ◌<◌, ◌≤◌, ◌+◌, Bool, true, false, List, [], ◌∷◌, ◌++◌, length, take, drop, filter, not, Option, Some, None, refl, sym, ap, ◌∙◌, subst, arith, length-append, if◌then◌else◌}
+use Rattle.std.proofs.Common.{◌≡◌, ℕ, Bool, true, false, List, [], ◌∷◌, ◌++◌, drop, filter, not, Option, Some, None, refl, sym, ap, ◌∙◌, subst, arith, length-append, if◌then◌else◌}
 use Rattle.std.proofs.lemmas.List.{take-append-le}
 use Rattle.vfs_model.specs.declared.Case.{Case}
 use Rattle.vfs_model.specs.Paths.{Path, place}
@@ -7,7 +7,7 @@ use Rattle.vfs_model.specs.World.{World, IsSameBelow}
 use Rattle.vfs_model.specs.Pending.{Pending, version}
 use Rattle.vfs_model.specs.Retained.{after_invalidation}
 use Rattle.vfs_model.specs.Scanning.{Scan}
-use Rattle.vfs_model.specs.State.{State, KeptPrint, Delivered, Cleared, NothingPending, after_delivery, after_clear, deliver_first, deliver_when, is_touched}
+use Rattle.vfs_model.specs.State.{State, Delivered, Cleared, NothingPending, after_delivery, after_clear, deliver_first, deliver_when, is_touched}
 use Rattle.vfs_model.specs.Stands.{StandsFor, RunningScan, Parts, Stands, IsScanOf, IsSlotOf, AreSlotsOf}
 use Rattle.world_model.specs.Front.{without_front, IsFirst}
 use Rattle.snapshot_hierarchy.specs.Held.{nothing}

@@ -1,11 +1,11 @@
 -- What a call owes: the reply of the model's step, and a machine that stands for the step's state.
-use Rattle.std.specs.Prelude.{◌≡◌, ℕ, Bool, true, false, List, [], Option, Some, None}
+use Rattle.std.specs.Prelude.{◌≡◌, ℕ, Bool, true, false, [], Option, Some, None}
 use Rattle.vfs_model.specs.Paths.{Path}
 use Rattle.vfs_model.specs.World.{World}
-use Rattle.vfs_model.specs.Edit.{Edit, Refusal, events}
+use Rattle.vfs_model.specs.Edit.{Edit, events}
 use Rattle.vfs_model.specs.Scanning.{Look}
 use Rattle.vfs_model.specs.Stands.{Parts, Stands}
-use Rattle.vfs_model.specs.State.{State, Call, CallRead, CallEdit, Reply, Outcome, Answers, EditAnswer, Refuses, Does, Refused, Done, Overflow, Fits, Cleared, Delivered, NothingPending, AlreadyOpen, Version, NoScan, AllRead, Saw, Unfinished, Stale, Covered, Stored, Fault, NoMemory, step, told_step}
+use Rattle.vfs_model.specs.State.{State, Call, CallRead, Reply, Outcome, Answers, EditAnswer, Refuses, Does, Refused, Done, Overflow, Fits, Cleared, Delivered, NothingPending, AlreadyOpen, Version, NoScan, AllRead, Saw, Unfinished, Stale, Covered, Stored, Fault, NoMemory, step, told_step}
 use Rattle.vfs_model.specs.History.{is_no_memory}
 use Rattle.world_model.specs.Meaning.{refusal_of}
 use Rattle.world_model.specs.declared.intake.Fit.{Fit}

@@ -33,9 +33,7 @@ use std::alloc::Global;
 use std::marker::Model;
 use version_hierarchy::Versions;
 use vfs_path::Path;
-use world_model::{
-    ApplyError, Edit, Entry, Events, Fit, Front, Intake, LookError, Tree,
-};
+use world_model::{ApplyError, Edit, Entry, Events, Fit, Front, Intake, LookError, Tree};
 
 /// A tree, the events that wait, what is retained with the versions of paths, and sixteen numbered
 /// scans, each closed or in progress.

@@ -102,7 +102,10 @@ fn events_past_the_queue_are_lost(rt: HostRuntime) -> Result<(), Fail> {
     assert_eq!(rt; machine.edit(&write(alloc, "/f", "abc")?), Edited::Done);
     assert_eq!(rt; machine.event(path(alloc, "/g")?), Fit::Fits);
     assert_eq!(rt; machine.edit(&write(alloc, "/h", "abc")?), Edited::Overflow);
-    assert_eq!(rt; machine.edit(&write(alloc, "/", "abc")?), Edited::Refused(EditError::Root));
+    assert_eq!(rt;
+        machine.edit(&write(alloc, "/", "abc")?),
+        Edited::Refused(EditError::Root)
+    );
     machine.lose();
     assert!(rt; matches!(machine.deliver(), Delivered::Cleared));
     assert!(rt; machine.settled());

@@ -57,9 +57,7 @@ fn run_script<K: Sink>(alloc: Global, script: &Script, sink: &mut K) -> Result<(
     let Ok(mut machine) = made else {
         return Err(Break::NoMemory);
     };
-    let ended = run_lines(alloc, &mut machine, script.lines.as_slice(), sink);
-    let _ = machine.into_tree();
-    ended
+    run_lines(alloc, &mut machine, script.lines.as_slice(), sink)
 }
 
 /// Runs the script of a text.

@@ -1,7 +1,5 @@
-use Rattle.std.proofs.Common.{◌≡◌, ◌≤◌, ◌∙◌, sym, ap, ℕ, Bool, true, false, arith}
-use Rattle.std.specs.List.{list_any}
+use Rattle.std.proofs.Common.{◌≤◌, sym, arith}
 use Rattle.vfs_model.specs.Paths as paths
-use Rattle.publish_core.specs.Publication.{is_stale}
 use Rattle.publish_core.proofs.SinceLemmas.{since-stale, since-fresh}
 use Rattle.publish_core.proofs.vfs.Vfs.publish.Goals as goal
 use Rattle.publish_core.proofs.vfs.Vfs.publish.Goals.{in-Ok-Kept, in-Ok-Covered, in-Err}

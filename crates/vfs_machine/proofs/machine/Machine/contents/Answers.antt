@@ -1,4 +1,4 @@
-use Rattle.std.proofs.Common.{◌∙◌, ap, option_map, List}
+use Rattle.std.proofs.Common.{◌∙◌, ap, option_map}
 use Rattle.vfs_model.specs.Scanning.{contents}
 use Rattle.vfs_model.specs.Stands.{RunningScan}
 use Rattle.vfs_machine.specs.Scans.{running_at}

@@ -1,4 +1,4 @@
-use Rattle.std.proofs.Common.{◌≡◌, ◌∙◌, sym, refl, Bool, true, false, Option, Some, None}
+use Rattle.std.proofs.Common.{◌≡◌, ◌∙◌, sym, refl, true, false, Some, None}
 use Rattle.vfs_model.specs.World.{World, IsWorld}
 use Rattle.vfs_model.specs.Edit.{refusal}
 use Rattle.world_model.specs.Meaning.{edit_of, events_of, refusal_of}

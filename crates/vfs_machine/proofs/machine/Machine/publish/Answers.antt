@@ -1,7 +1,7 @@
-use Rattle.std.proofs.Common.{◌≡◌, ◌∙◌, ◌<◌, ℕ, sym, ap, subst, arith, Option, Some, None, option_map, List}
+use Rattle.std.proofs.Common.{◌≡◌, ◌∙◌, ℕ, sym, ap, arith, Some, None, option_map}
 use Rattle.vfs_model.specs.Scanning.{count_left}
 use Rattle.vfs_model.specs.Stands.{RunningScan}
-use Rattle.vfs_machine.specs.Scans.{running_at, AreDigests, AreContentsOf}
+use Rattle.vfs_machine.specs.Scans.{running_at, AreDigests}
 use Rattle.vfs_machine.proofs.PublishLemmas.{publish-closed, publish-unfinished, publish-whole, digests-of_contents}
 use Rattle.vfs_machine.proofs.machine.Machine.publish.Goals as goal
 

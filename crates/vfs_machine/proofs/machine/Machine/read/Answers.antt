@@ -1,5 +1,4 @@
-use Rattle.std.proofs.Common.{◌≡◌, ◌∙◌, sym, ap, refl, Option, Some, None}
-use Rattle.vfs_model.specs.Scanning.{Look}
+use Rattle.std.proofs.Common.{Some, None}
 use Rattle.world_model.specs.Meaning.{look_seen}
 use Rattle.vfs_machine.specs.declared.scan.Next.TheVariants as to
 use Rattle.vfs_machine.specs.Scans.{running_at, IsNext}
