@@ -6,3 +6,4 @@ pub mod PrintLemmas
 pub mod ReplyLemmas
 pub mod LineLemmas
 pub mod WordLemmas
+pub mod ReportRows
