@@ -11,7 +11,7 @@ use std::marker::Model;
 /// An MD5 digest (RFC 1321): sixteen bytes, which contracts see.
 #[derive(Clone, Copy, Debug, PartialEq, Eq)]
 pub struct Digest {
-    bytes: [u8; 16],
+    pub(crate) bytes: [u8; 16],
 }
 
 impl Model for Digest {

@@ -3,9 +3,11 @@
 
 mod bytes;
 mod digest;
+mod dir_hasher;
 
 pub use bytes::Bytes;
 pub use digest::{Digest, file_digest};
+pub use dir_hasher::{DirHasher, Mark};
 
 /// Bytes and digests may be shared by threads.
 pub fn shares_with_threads(bytes: &Bytes, digest: &Digest) {

@@ -1,6 +1,7 @@
-//! Digests of texts, by RFC 1321, and byte strings with several owners.
+//! Digests of texts, by RFC 1321, and of directories, by bytes written out, and byte strings with
+//! several owners.
 
-use crate::{Bytes, file_digest};
+use crate::{Bytes, DirHasher, Mark, file_digest};
 use case_order::Share;
 use std::test::Fail;
 
@@ -26,6 +27,20 @@ fn digests_are_those_of_md5(rt: HostRuntime) {
     ] {
         assert_eq!(rt; file_digest(text).to_hex().as_slice(), want);
     }
+}
+
+#[test]
+fn directories_are_hashed_by_their_children(rt: HostRuntime) {
+    let empty = DirHasher::new().finish();
+    assert_eq!(rt;
+        empty.to_hex().as_slice(),
+        b"f623e75af30e62bbd73d6df5b50bb7b5".as_slice()
+    );
+    let mut hasher = DirHasher::new();
+    hasher.child(b"a", Mark::F, &file_digest(b"a"));
+    let bytes =
+        b"D\x00\x00\x00\x01aF\x0c\xc1\x75\xb9\xc0\xf1\xb6\xa8\x31\xc3\x99\xe2\x69\x77\x26\x61";
+    assert_eq!(rt; hasher.finish(), file_digest(bytes));
 }
 
 #[test]

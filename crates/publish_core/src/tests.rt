@@ -1,16 +1,19 @@
 //! When a ticket is stale, and what a publication leaves, over lists.
 
-ghost use Rattle.std.specs.Prelude.{◌≡◌, ◌<◌, ◌^◌, length};
+ghost use Rattle.std.specs.Prelude.{◌≡◌, ◌≢◌, ◌<◌, ◌^◌, length};
+ghost use Rattle.vfs_model.specs.Snapshot.{Missing};
+ghost use Rattle.snapshot_tree.specs.Meaning.{meaning_of};
 
 use crate::{Published, Vfs};
 use case_order::Case;
 use merkle_hash::{Digest, file_digest};
 use snapshot_hierarchy::{FlatRetain, Retain};
-use snapshot_tree::{Kind, Snapshot};
+use snapshot_tree::{DirBuilder, Kind, Snapshot};
 use std::alloc::Global;
+use std::process::Abort;
 use std::test::Fail;
 use version_hierarchy::{FlatVersions, Versions};
-use vfs_path::Path;
+use vfs_path::{Name, Path};
 
 fn empty(alloc: Global) -> Vfs<FlatRetain, FlatVersions>
     ensures { length result.versions.places ≡ 0 }
@@ -23,8 +26,17 @@ fn path(alloc: Global, text: &str) -> Result<Path, Fail> {
     Ok(Path::parse(alloc, text.as_bytes())?)
 }
 
-fn file(text: &str) -> Snapshot {
+fn file(text: &str) -> Snapshot
+    ensures { meaning_of result ≢ Missing }
+{
     Snapshot::File(file_digest(text.as_bytes()))
+}
+
+/// The directory with one file, which holds its name.
+fn directory(alloc: Global, name: &str) -> Result<Snapshot, Fail> {
+    let mut builder = DirBuilder::new(alloc, Case::Insensitive);
+    builder.add(Name::from_bytes(alloc, name.as_bytes())?, file(name))?;
+    Ok(builder.finish()?)
 }
 
 /// Publishes the snapshot at the path, with a ticket of just now.
@@ -109,15 +121,34 @@ fn file_is_kept_above_what_lies_below_it(rt: HostRuntime) -> Result<(), Fail> {
     Ok(())
 }
 
+/// Asserts the part at the path: nothing is retained there, nothing was there, or the digest.
+fn assert_part<R: Retain, V: Versions>(
+    rt: &impl Abort,
+    alloc: Global,
+    vfs: &Vfs<R, V>,
+    at: &str,
+    want: Option<Option<Digest>>,
+) -> Result<(), Fail> {
+    let part = vfs.part(&path(alloc, at)?)?;
+    assert_eq!(rt; part.map(|part| part.digest()), want, "at {at}");
+    Ok(())
+}
+
 #[test]
 fn part_is_what_was_published(rt: HostRuntime) -> Result<(), Fail> {
     let alloc = rt.alloc();
     let mut vfs = empty(alloc);
-    assert_eq!(rt;
-        publish(alloc, &mut vfs, "/a", Snapshot::Missing)?,
-        Published::Stored
-    );
-    let part = vfs.part(&path(alloc, "/a/b")?)?;
-    assert!(rt; matches!(part, Some(Snapshot::Missing)));
+    let missing = publish(alloc, &mut vfs, "/a", Snapshot::Missing)?;
+    assert_eq!(rt; missing, Published::Stored);
+    let published = publish(alloc, &mut vfs, "/d", directory(alloc, "a")?)?;
+    assert_eq!(rt; published, Published::Stored);
+    for (at, want) in [
+        ("/a/b", Some(None)),
+        ("/d/A", Some(Some(file_digest(b"a")))),
+        ("/d/b", Some(None)),
+        ("/x", None),
+    ] {
+        assert_part(&rt, alloc, &vfs, at, want)?;
+    }
     Ok(())
 }

@@ -5,4 +5,4 @@ pub mod NumberLemmas
 pub mod Tables
 pub mod LineLaws
 pub mod TextLaws
-pub mod Begun
+pub mod TrueCauses

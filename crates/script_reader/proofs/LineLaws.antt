@@ -1,36 +1,44 @@
 -- What a line adds to a script, and what a line of a script is read as.
-use Rattle.std.proofs.Common.{◌≡◌, ℕ, ◌^◌, ◌<◌, ◌≤◌, Bool, true, false, cond, leb, List, [], ◌∷◌, Option, Some, None, Ok, Err, refl, ap, subst, ◌∙◌, arith, Decides}
+use Rattle.std.proofs.Common.{◌≡◌, ℕ, ◌^◌, ◌<◌, ◌≤◌, Bool, true, false, cond, eqb, leb, List, [], ◌∷◌, length, Option, Some, None, Ok, Err, refl, ap, subst, ◌∙◌, arith, inl, inr, Decides}
 use Rattle.std.specs.Prelude.{codes}
 use Rattle.std.specs.Str.{bytes_eq, all_ascii_digits}
 use Rattle.std.specs.Fmt.{decimal}
 use Rattle.std.proofs.lemmas.Bool.{leb-true, le-leb, false≢true}
+use Rattle.std.proofs.Math.Dec.{eqb-suc-zero}
+use Rattle.vfs_model.specs.Paths.{Path}
 use Rattle.std.proofs.lemmas.Slice.Eq.{bytes_eq-Decides}
-use Rattle.world_model.specs.declared.edit.Edit.TheVariants.{Write}
+use Rattle.world_model.specs.declared.edit.Edit.TheVariants.{Write, Mkdir, Remove, Move}
 use Rattle.script_reader.specs.declared.cause.Cause.TheVariants as causes
 use Rattle.script_reader.specs.declared.script.TextKind.{TextKind}
+use Rattle.script_reader.specs.declared.script.Opening.{Opening}
+use Rattle.script_reader.specs.declared.script.Opening.TheVariants.{Dir, File}
 use Rattle.script_reader.specs.declared.script.Command.{Command}
-use Rattle.script_reader.specs.declared.script.Command.TheVariants.{Edit, Settle, Begin, Read, Publish, Find}
+use Rattle.script_reader.specs.declared.script.Command.TheVariants.{Edit, Event, Deliver, Settle, Begin, Read, Publish, Scan, Find, KindOf, VersionOf}
 use Rattle.script_reader.specs.declared.script.Line.{Line}
 use Rattle.script_reader.specs.declared.script.Script.{Script}
 use Rattle.script_reader.specs.Gives.{◌>>=◌}
 use Rattle.script_reader.specs.Numbers.{number_of}
 use Rattle.script_reader.specs.Words.{is_note, words_of}
-use Rattle.script_reader.specs.Forms.{command_of}
-use Rattle.script_reader.specs.Reading.{is_in, with_line, caller_from, with_setting, with_command, with_words, after_line}
-use Rattle.script_reader.specs.Grammar.{IsCommand, HasWords, IsCommandLine}
+use Rattle.script_reader.specs.Forms.{opening_of, command_of}
+use Rattle.script_reader.specs.Reading.{is_in, with_opening, with_line, caller_from, with_setting, with_command, with_words, after_line}
+use Rattle.script_reader.specs.Grammar.{IsPathForm, IsFileForm, IsOpening, IsCommand, HasWords, IsOpeningLine, IsCommandLine}
 use Rattle.script_reader.proofs.NumberLemmas.{decimal_of_number, number_of_decimal, digits_of_decimal}
-use Rattle.script_reader.proofs.Tables.{bind_ok, ok_is, passed_ok, command_is, command_again}
+use Rattle.script_reader.proofs.Tables.{bind_ok, ok_is, passed_ok, opening_is, opening_again, command_is, command_again}
 
 -- what a line adds
 pub data LineAdds (kind : TextKind) (s : Script) (text : List ℕ) : Script → Type 0 where
   nothing : is_note text ≡ true → LineAdds kind s text s
+  setting : (o : Opening) → IsOpeningLine text o → s.lines ≡ [] → LineAdds kind s text (with_opening s o)
   command : (l : Line) → IsCommandLine kind text l → LineAdds kind s text (with_line s l)
 
-no_setting : (words : List (List ℕ)) (now : Script) → with_setting words ≡ Ok now → ⊥
-no_setting [] now e = absurd cc
-no_setting (word ∷ args) now e = absurd cc
+setting_adds : (kind : TextKind) (s : Script) (text : List ℕ) (more : List (List ℕ)) (now : Script) → HasWords text (codes "set" ∷ more) → s.lines ≡ [] → with_setting s more ≡ Ok now → LineAdds kind s text now
+setting_adds kind s text [] now w first e = absurd cc
+setting_adds kind s text (word ∷ args) now w first e =
+    let b = bind_ok (opening_of word args) (λ o. Ok (with_opening s o)) now e in
+    subst (λ (x : Script). LineAdds kind s text x) (ok_is (with_opening s b.0) now b.2) (setting b.0 (record { words = word ∷ args; spelled = w; form = opening_is word args b.0 b.1 }) first)
 
-caller_is : (o : Option ℕ) (n : ℕ) → caller_from o ≡ Ok n → (o ≡ Some n) × (n ≤ 15)
+-- the number of a caller
+pub caller_is : (o : Option ℕ) (n : ℕ) → caller_from o ≡ Ok n → (o ≡ Some n) × (n ≤ 15)
 caller_is None n e = absurd cc
 caller_is (Some m) n e =
     let g = passed_ok (leb m 15) causes.BadCaller (Ok m) n e in
@@ -44,12 +52,19 @@ command_adds kind s text first (word ∷ args) n now w number le e =
     let g = passed_ok (is_in kind b.0) causes.UnknownWord (Ok (with_line s (record { caller = n; command = b.0 }))) now b.2 in
     let spelled : HasWords text (decimal n ∷ word ∷ args) = subst (λ (f : List ℕ). HasWords text (f ∷ word ∷ args)) (decimal_of_number first n number).0 w in
     subst (λ (x : Script). LineAdds kind s text x) (ok_is (with_line s (record { caller = n; command = b.0 })) now g.1)
-    (command (record { caller = n; command = b.0 }) (record { words = word ∷ args; spelled = spelled; caller = le; command = command_is word args b.0 b.1; allowed = g.0 }))
+    (command (record { caller = n; command = b.0 }) (record { words = word ∷ args; spelled = spelled; caller = le; form = command_is word args b.0 b.1; allowed = g.0 }))
 
-first_adds : (kind : TextKind) (s : Script) (text first : List ℕ) (more : List (List ℕ)) (now : Script) (b : Bool) → HasWords text (first ∷ more)
-    → cond b (with_setting more) (caller_from (number_of first) >>= λ caller. with_command kind s caller more) ≡ Ok now → LineAdds kind s text now
-first_adds kind s text first more now true w e = absurd (no_setting more now e)
-first_adds kind s text first more now false w e =
+-- there is no line
+pub none_of : (lines : List Line) → eqb (length lines) 0 ≡ true → lines ≡ []
+none_of [] e = refl
+none_of (l ∷ lines) e = absurd (let f = rw eqb-suc-zero at e in cc)
+
+first_adds : (kind : TextKind) (s : Script) (text first : List ℕ) (more : List (List ℕ)) (now : Script) (b : Bool) → HasWords text (first ∷ more) → Decides b (first ≡ codes "set")
+    → cond b (cond (eqb (length s.lines) 0) (with_setting s more) (Err causes.LateSetting)) (caller_from (number_of first) >>= λ caller. with_command kind s caller more) ≡ Ok now → LineAdds kind s text now
+first_adds kind s text first more now true w d e =
+    let g = passed_ok (eqb (length s.lines) 0) causes.LateSetting (with_setting s more) now e in
+    setting_adds kind s text more now (subst (λ (f : List ℕ). HasWords text (f ∷ more)) (d.0 refl) w) (none_of s.lines g.0) g.1
+first_adds kind s text first more now false w d e =
     let b = bind_ok (caller_from (number_of first)) (λ caller. with_command kind s caller more) now e in
     let c = caller_is (number_of first) b.0 b.1 in
     command_adds kind s text first more b.0 now w c.0 c.1 b.2
@@ -57,7 +72,7 @@ first_adds kind s text first more now false w e =
 words_add : (kind : TextKind) (s : Script) (text : List ℕ) (words : List (List ℕ)) (now : Script) → HasWords text words → with_words kind s words ≡ Ok now → LineAdds kind s text now
 unfolding with_words
 words_add kind s text [] now w e = absurd cc
-words_add kind s text (first ∷ more) now w e = first_adds kind s text first more now (bytes_eq first (codes "set")) w e
+words_add kind s text (first ∷ more) now w e = first_adds kind s text first more now (bytes_eq first (codes "set")) w (bytes_eq-Decides first (codes "set")) e
 
 line_adds_by : (kind : TextKind) (s : Script) (text : List ℕ) (now : Script) (b : Bool) → is_note text ≡ b → cond b (Ok s) (words_of text >>= λ words. with_words kind s words) ≡ Ok now → LineAdds kind s text now
 line_adds_by kind s text now true note e = subst (λ (x : Script). LineAdds kind s text x) (ok_is s now e) (nothing note)
@@ -77,6 +92,28 @@ by_words : (kind : TextKind) (s : Script) (text : List ℕ) (words : List (List 
 unfolding after_line
 by_words kind s text words w = rw (w.0, w.1) refl
 
+set_is_set : (kind : TextKind) (s : Script) (more : List (List ℕ)) → s.lines ≡ [] → with_words kind s (codes "set" ∷ more) ≡ with_setting s more
+unfolding with_words
+set_is_set kind s more none = rw none refl
+
+-- a form has a word
+no_path_form : (name : List ℕ) (path : Path) → IsPathForm name path [] → ⊥
+no_path_form name path h = absurd (let e = h.1 in cc)
+
+no_file_form : (name : List ℕ) (path : Path) (bytes : List ℕ) → IsFileForm name path bytes [] → ⊥
+no_file_form name path bytes h = elim h.2 [ inl e ↦ absurd cc | inr e ↦ absurd (let f = e.1 in cc) ]
+
+no_setting : (o : Opening) → IsOpening o [] → ⊥
+no_setting (Dir path) h = no_path_form _ path h
+no_setting (File path bytes) h = no_file_form _ path bytes h
+
+setting_read_by : (s : Script) (o : Opening) (words : List (List ℕ)) → IsOpening o words → with_setting s words ≡ Ok (with_opening s o)
+setting_read_by s o [] h = absurd (no_setting o h)
+setting_read_by s o (word ∷ args) h = rw (opening_again o word args h) refl
+
+pub setting_read : (kind : TextKind) (s : Script) (text : List ℕ) (o : Opening) → IsOpeningLine text o → s.lines ≡ [] → after_line kind s text ≡ Ok (with_opening s o)
+setting_read kind s text o h none = by_words kind s text (codes "set" ∷ h.words) h.spelled ∙ set_is_set kind s h.words none ∙ setting_read_by s o h.words h.form
+
 not_set_by : (n : ℕ) (b : Bool) → n < 2 ^ 32 → Decides b (decimal n ≡ codes "set") → b ≡ false
 not_set_by n true lt d = absurd (false≢true (let e : all_ascii_digits (codes "set") ≡ true = subst (λ (w : List ℕ). all_ascii_digits w ≡ true) (d.0 refl) (digits_of_decimal n lt) in e))
 not_set_by n false lt d = refl
@@ -86,18 +123,25 @@ unfolding with_words
 number_is_caller kind s n more le =
     rw (not_set_by n (bytes_eq (decimal n) (codes "set")) (omega arith) (bytes_eq-Decides (decimal n) (codes "set")), number_of_decimal n (omega arith), le-leb n 15 le) refl
 
--- a command has a word
 no_word : (c : Command) → IsCommand c [] → ⊥
-no_word (Edit (Write path bytes)) h = absurd (let e = h.2 in cc)
+no_word (Edit (Write path bytes)) h = no_file_form _ path bytes h
+no_word (Edit (Mkdir path)) h = no_path_form _ path h
+no_word (Edit (Remove path)) h = no_path_form _ path h
+no_word (Edit (Move from to)) h = absurd (let e = h.2 in cc)
+no_word (Event path) h = no_path_form _ path h
+no_word Deliver h = absurd cc
 no_word Settle h = absurd cc
-no_word (Begin path) h = absurd (let e = h.1 in cc)
+no_word (Begin path) h = no_path_form _ path h
 no_word Read h = absurd cc
 no_word Publish h = absurd cc
-no_word (Find path) h = absurd (let e = h.1 in cc)
+no_word (Scan path) h = no_path_form _ path h
+no_word (Find path) h = no_path_form _ path h
+no_word (KindOf path) h = no_path_form _ path h
+no_word (VersionOf path) h = no_path_form _ path h
 
 command_read_by : (kind : TextKind) (s : Script) (n : ℕ) (c : Command) (words : List (List ℕ)) → IsCommand c words → is_in kind c ≡ true → with_command kind s n words ≡ Ok (with_line s (record { caller = n; command = c }))
 command_read_by kind s n c [] h ok = absurd (no_word c h)
 command_read_by kind s n c (word ∷ args) h ok = rw (command_again c word args h, ok) refl
 
 pub command_read : (kind : TextKind) (s : Script) (text : List ℕ) (l : Line) → IsCommandLine kind text l → after_line kind s text ≡ Ok (with_line s l)
-command_read kind s text l h = by_words kind s text (decimal l.caller ∷ h.words) h.spelled ∙ number_is_caller kind s l.caller h.words h.caller ∙ command_read_by kind s l.caller l.command h.words h.command h.allowed
+command_read kind s text l h = by_words kind s text (decimal l.caller ∷ h.words) h.spelled ∙ number_is_caller kind s l.caller h.words h.caller ∙ command_read_by kind s l.caller l.command h.words h.form h.allowed

@@ -1,5 +1,5 @@
 -- The forms of lines: what is read is of its form, and what is of a form is read.
-use Rattle.std.proofs.Common.{◌≡◌, ℕ, ◌≤◌, Bool, true, false, cond, ltb, List, [], ◌∷◌, length, Result, Ok, Err, refl, sym, ap, subst, inl, inr, ◌⊎◌, Decides}
+use Rattle.std.proofs.Common.{◌≡◌, ℕ, ◌≤◌, Bool, true, false, cond, ltb, List, [], ◌∷◌, length, Result, Ok, Err, refl, sym, ap, subst, inl, inr, ◌⊎◌, lit≤, Decides}
 use Rattle.std.specs.Prelude.{codes}
 use Rattle.std.specs.Str.{bytes_eq}
 use Rattle.std.specs.List.{AllByRecursion}
@@ -8,14 +8,16 @@ use Rattle.std.proofs.lemmas.Slice.Eq.{bytes_eq-Decides}
 use Rattle.vfs_model.specs.Paths.{Path}
 use Rattle.vfs_path.specs.declared.error.PathError.{PathError}
 use Rattle.vfs_path.specs.Texts.{IsPath, path_of, path_text}
-use Rattle.world_model.specs.declared.edit.Edit.TheVariants.{Write}
+use Rattle.world_model.specs.declared.edit.Edit.TheVariants.{Write, Mkdir, Remove, Move}
 use Rattle.script_reader.specs.declared.cause.Cause.{Cause}
 use Rattle.script_reader.specs.declared.cause.Cause.TheVariants as causes
+use Rattle.script_reader.specs.declared.script.Opening.{Opening}
+use Rattle.script_reader.specs.declared.script.Opening.TheVariants.{Dir, File}
 use Rattle.script_reader.specs.declared.script.Command.{Command}
-use Rattle.script_reader.specs.declared.script.Command.TheVariants.{Edit, Settle, Begin, Read, Publish, Find}
+use Rattle.script_reader.specs.declared.script.Command.TheVariants.{Edit, Event, Deliver, Settle, Begin, Read, Publish, Scan, Find, KindOf, VersionOf}
 use Rattle.script_reader.specs.Gives.{◌>>=◌}
-use Rattle.script_reader.specs.Forms.{Form, or_bad_path, path_from, content_from, no_more, one_path, path_and_content, form_named, command_forms, command_of}
-use Rattle.script_reader.specs.Grammar.{IsFileForm, IsPathForm, IsCommand}
+use Rattle.script_reader.specs.Forms.{Form, or_bad_path, path_from, content_from, file_from, no_more, one_path, two_paths, one_file, alone, with_path, with_two_paths, with_file, form_named, unknown, opening_forms, plain_forms, edit_forms, path_forms, opening_of, plain_command_of, path_command_of, command_of}
+use Rattle.script_reader.specs.Grammar.{IsFileForm, IsPathForm, IsTwoPathForm, IsOpening, IsCommand}
 use Rattle.vfs_path.proofs.TextLaws.{path_text-from_text, IsPath-from_text, path_of-path_text}
 
 -- ---- steps that did not fail
@@ -24,7 +26,7 @@ pub bind_ok : {A B : Type 0} (r : Result A Cause) (f : A → Result B Cause) (y 
 bind_ok (Ok x) f y e = (x, refl, e)
 bind_ok (Err d) f y e = absurd cc
 
-abbrev done : {A : Type 0} → A → Result A Cause
+abbrev pub done : {A : Type 0} → A → Result A Cause
 done x = Ok x
 
 pub ok_is : {A : Type 0} (x y : A) → done x ≡ done y → x ≡ y
@@ -57,7 +59,7 @@ path_from_is word path e =
     let read = no_refusal (path_of word) path e in
     (sym (path_text-from_text word path read), IsPath-from_text word path read)
 
-path_from_again : (path : Path) → IsPath path → path_from (path_text path) ≡ Ok path
+pub path_from_again : (path : Path) → IsPath path → path_from (path_text path) ≡ Ok path
 path_from_again path is = ap or_bad_path (path_of-path_text path is)
 
 content_is : (word bytes : List ℕ) → content_from word ≡ Ok bytes → (word ≡ bytes) × (length bytes ≤ 1048576)
@@ -78,23 +80,57 @@ no_more_is : (args : List (List ℕ)) (u : Unit {0}) → no_more args ≡ Ok u �
 no_more_is [] u e = refl
 no_more_is (word ∷ more) u e = absurd cc
 
--- the words after the name of a form with a path and contents
-abbrev FileWords : Path → List ℕ → List (List ℕ) → Type 0
-FileWords path bytes args = IsPath path × (length bytes ≤ 1048576) × (args ≡ path_text path ∷ bytes ∷ [])
+-- the words after the name of a form with two paths
+abbrev PathWords : Path → Path → List (List ℕ) → Type 0
+PathWords from to args = IsPath from × IsPath to × (args ≡ path_text from ∷ path_text to ∷ [])
 
-path_and_content_is : (args : List (List ℕ)) (a : Path × List ℕ) → path_and_content args ≡ Ok a → FileWords a.0 a.1 args
-path_and_content_is [] a e = absurd cc
-path_and_content_is (word ∷ []) a e = absurd cc
-path_and_content_is (word ∷ bytes ∷ []) a e =
+two_paths_is : (args : List (List ℕ)) (a : Path × Path) → two_paths args ≡ Ok a → PathWords a.0 a.1 args
+two_paths_is [] a e = absurd cc
+two_paths_is (word ∷ []) a e = absurd cc
+two_paths_is (word ∷ other ∷ []) a e =
+    let b = bind_ok (path_from word) (λ from. path_from other >>= λ to. Ok (from, to)) a e in
+    let d = bind_ok (path_from other) (λ to. Ok (b.0, to)) a b.2 in
+    let i = path_from_is word b.0 b.1 in
+    let j = path_from_is other d.0 d.1 in
+    subst (λ (x : Path × Path). PathWords x.0 x.1 (word ∷ other ∷ [])) (ok_is (b.0, d.0) a d.2) (i.1, j.1, cons_same word (path_text b.0) (other ∷ []) (path_text d.0 ∷ []) i.0 (ap (λ (v : List ℕ). v ∷ []) j.0))
+two_paths_is (word ∷ other ∷ v ∷ more) a e = absurd cc
+
+two_paths_again : (from to : Path) (args : List (List ℕ)) → PathWords from to args → two_paths args ≡ Ok (from, to)
+two_paths_again from to args h = rw (h.2, path_from_again from h.0, path_from_again to h.1) refl
+
+-- the path and the contents that two words say
+IsFileFrom : List ℕ → List ℕ → Path → List ℕ → Type 0
+IsFileFrom word bytes path content = IsPath path × (length content ≤ 1048576) × (word ≡ path_text path) × (bytes ≡ content)
+
+file_from_is : (word bytes : List ℕ) (a : Path × List ℕ) → file_from word bytes ≡ Ok a → IsFileFrom word bytes a.0 a.1
+unfolding IsFileFrom
+file_from_is word bytes a e =
     let b = bind_ok (path_from word) (λ path. content_from bytes >>= λ content. Ok (path, content)) a e in
     let d = bind_ok (content_from bytes) (λ content. Ok (b.0, content)) a b.2 in
     let i = path_from_is word b.0 b.1 in
     let j = content_is bytes d.0 d.1 in
-    subst (λ (x : Path × List ℕ). FileWords x.0 x.1 (word ∷ bytes ∷ [])) (ok_is (b.0, d.0) a d.2) (i.1, j.1, cons_same word (path_text b.0) (bytes ∷ []) (d.0 ∷ []) i.0 (ap (λ (v : List ℕ). v ∷ []) j.0))
-path_and_content_is (word ∷ bytes ∷ v ∷ more) a e = absurd cc
+    subst (λ (x : Path × List ℕ). IsFileFrom word bytes x.0 x.1) (ok_is (b.0, d.0) a d.2) (i.1, j.1, i.0, j.0)
 
-path_and_content_again : (path : Path) (bytes : List ℕ) (args : List (List ℕ)) → FileWords path bytes args → path_and_content args ≡ Ok (path, bytes)
-path_and_content_again path bytes args h = rw (h.2, path_from_again path h.0, content_again bytes h.1) refl
+file_from_again : (path : Path) (bytes : List ℕ) → IsPath path → length bytes ≤ 1048576 → file_from (path_text path) bytes ≡ Ok (path, bytes)
+file_from_again path bytes is fits = rw (path_from_again path is, content_again bytes fits) refl
+
+-- the words after the name of a form with a file
+abbrev FileWords : Path → List ℕ → List (List ℕ) → Type 0
+FileWords path bytes args = IsPath path × (length bytes ≤ 1048576) × ((args ≡ path_text path ∷ bytes ∷ []) ⊎ ((bytes ≡ []) × (args ≡ path_text path ∷ [])))
+
+one_file_is : (args : List (List ℕ)) (a : Path × List ℕ) → one_file args ≡ Ok a → FileWords a.0 a.1 args
+unfolding IsFileFrom
+one_file_is [] a e = absurd cc
+one_file_is (word ∷ []) a e = let i = file_from_is word [] a e in (i.0, i.1, inr (sym i.3, ap (λ (v : List ℕ). v ∷ []) i.2))
+one_file_is (word ∷ bytes ∷ []) a e = let i = file_from_is word bytes a e in (i.0, i.1, inl (cons_same word (path_text a.0) (bytes ∷ []) (a.1 ∷ []) i.2 (ap (λ (v : List ℕ). v ∷ []) i.3)))
+one_file_is (word ∷ bytes ∷ v ∷ more) a e = absurd cc
+
+one_file_again : (path : Path) (bytes : List ℕ) (args : List (List ℕ)) → FileWords path bytes args → one_file args ≡ Ok (path, bytes)
+one_file_again path bytes args h =
+    elim h.2 [
+      | inl e ↦ rw e (file_from_again path bytes h.0 h.1)
+      | inr e ↦ rw (e.1, e.0) (file_from_again path [] h.0 (lit≤ tt))
+    ]
 
 -- ---- rows of a table
 
@@ -110,53 +146,100 @@ row word name here later x e = row_by (bytes_eq word name) (bytes_eq-Decides wor
 RowIs : {X : Type 0} (Is : X → List (List ℕ) → Type 0) → List ℕ × Form X → Type 0
 RowIs {X} Is r = (word : List ℕ) (args : List (List ℕ)) (x : X) → word ≡ r.0 → r.1 args ≡ Ok x → Is x (word ∷ args)
 
-table_is : {X : Type 0} (Is : X → List (List ℕ) → Type 0) (rows : List (List ℕ × Form X)) → AllByRecursion (RowIs Is) rows → (word : List ℕ) (args : List (List ℕ)) (x : X) → form_named rows word args ≡ Ok x → Is x (word ∷ args)
-unfolding RowIs
-table_is Is [] each word args x e = absurd cc
-table_is Is (r ∷ rows) each word args x e =
-    elim (row word r.0 (r.1 args) (form_named rows word args) x e) [
+-- what a form reads is of it, whatever the name
+OtherIs : {X : Type 0} (Is : X → List (List ℕ) → Type 0) → List ℕ → Form X → Type 0
+OtherIs {X} Is word other = (args : List (List ℕ)) (x : X) → other args ≡ Ok x → Is x (word ∷ args)
+
+table_is : {X : Type 0} (Is : X → List (List ℕ) → Type 0) (rows : List (List ℕ × Form X)) (other : Form X) (word : List ℕ) → AllByRecursion (RowIs Is) rows → OtherIs Is word other
+    → (args : List (List ℕ)) (x : X) → form_named rows other word args ≡ Ok x → Is x (word ∷ args)
+unfolding RowIs OtherIs
+table_is Is [] other word each last args x e = last args x e
+table_is Is (r ∷ rows) other word each last args x e =
+    elim (row word r.0 (r.1 args) (form_named rows other word args) x e) [
       | inl h ↦ each.0 word args x h.0 h.1
-      | inr later ↦ table_is Is rows each.1 word args x later
+      | inr later ↦ table_is Is rows other word each.1 last args x later
     ]
 
-path_row : {X : Type 0} (Is : X → List (List ℕ) → Type 0) (name : List ℕ) (make : Path → X) → ((path : Path) (words : List (List ℕ)) → IsPathForm name path words → Is (make path) words) → RowIs Is (name, λ args. one_path args >>= λ path. Ok (make path))
+unknown_is : {X : Type 0} (Is : X → List (List ℕ) → Type 0) (word : List ℕ) → OtherIs Is word unknown
+unfolding OtherIs
+unknown_is Is word args x e = absurd cc
+
+path_row : {X : Type 0} (Is : X → List (List ℕ) → Type 0) (name : List ℕ) (make : Path → X) → ((path : Path) (words : List (List ℕ)) → IsPathForm name path words → Is (make path) words) → RowIs Is (name, with_path make)
 unfolding RowIs
 path_row Is name make is word args x w e =
     let b = bind_ok (one_path args) (λ path. Ok (make path)) x e in
     let i = one_path_is args b.0 b.1 in
     subst (λ (y : _). Is y (word ∷ args)) (ok_is (make b.0) x b.2) (is b.0 (word ∷ args) (i.1, cons_same word name args (path_text b.0 ∷ []) w i.0))
 
-file_row : {X : Type 0} (Is : X → List (List ℕ) → Type 0) (name : List ℕ) (make : Path → List ℕ → X) → ((path : Path) (bytes : List ℕ) (words : List (List ℕ)) → IsFileForm name path bytes words → Is (make path bytes) words)
-    → RowIs Is (name, λ args. path_and_content args >>= λ a. Ok (make a.0 a.1))
+two_path_row : {X : Type 0} (Is : X → List (List ℕ) → Type 0) (name : List ℕ) (make : Path → Path → X) → ((from to : Path) (words : List (List ℕ)) → IsTwoPathForm name from to words → Is (make from to) words) → RowIs Is (name, with_two_paths make)
+unfolding RowIs
+two_path_row Is name make is word args x w e =
+    let b = bind_ok (two_paths args) (λ a. Ok (make a.0 a.1)) x e in
+    let i = two_paths_is args b.0 b.1 in
+    subst (λ (y : _). Is y (word ∷ args)) (ok_is (make b.0.0 b.0.1) x b.2) (is b.0.0 b.0.1 (word ∷ args) (i.0, i.1, cons_same word name args (path_text b.0.0 ∷ path_text b.0.1 ∷ []) w i.2))
+
+file_row : {X : Type 0} (Is : X → List (List ℕ) → Type 0) (name : List ℕ) (make : Path → List ℕ → X) → ((path : Path) (bytes : List ℕ) (words : List (List ℕ)) → IsFileForm name path bytes words → Is (make path bytes) words) → RowIs Is (name, with_file make)
 unfolding RowIs
 file_row Is name make is word args x w e =
-    let b = bind_ok (path_and_content args) (λ a. Ok (make a.0 a.1)) x e in
-    let i = path_and_content_is args b.0 b.1 in
-    subst (λ (y : _). Is y (word ∷ args)) (ok_is (make b.0.0 b.0.1) x b.2) (is b.0.0 b.0.1 (word ∷ args) (i.0, i.1, cons_same word name args (path_text b.0.0 ∷ b.0.1 ∷ []) w i.2))
+    let b = bind_ok (one_file args) (λ a. Ok (make a.0 a.1)) x e in
+    let i = one_file_is args b.0 b.1 in
+    let words : (word ∷ args ≡ name ∷ path_text b.0.0 ∷ b.0.1 ∷ []) ⊎ ((b.0.1 ≡ []) × (word ∷ args ≡ name ∷ path_text b.0.0 ∷ [])) =
+    elim i.2 [ inl f ↦ inl (cons_same word name args (path_text b.0.0 ∷ b.0.1 ∷ []) w f) | inr f ↦ inr (f.0, cons_same word name args (path_text b.0.0 ∷ []) w f.1) ] in
+    subst (λ (y : _). Is y (word ∷ args)) (ok_is (make b.0.0 b.0.1) x b.2) (is b.0.0 b.0.1 (word ∷ args) (i.0, i.1, words))
 
-plain_row : {X : Type 0} (Is : X → List (List ℕ) → Type 0) (name : List ℕ) (it : X) → ((words : List (List ℕ)) → words ≡ name ∷ [] → Is it words) → RowIs Is (name, λ args. no_more args >>= λ _. Ok it)
+plain_row : {X : Type 0} (Is : X → List (List ℕ) → Type 0) (name : List ℕ) (it : X) → ((words : List (List ℕ)) → words ≡ name ∷ [] → Is it words) → RowIs Is (name, alone it)
 unfolding RowIs
 plain_row Is name it is word args x w e =
     let b = bind_ok (no_more args) (λ _. Ok it) x e in
     subst (λ (y : _). Is y (word ∷ args)) (ok_is it x b.2) (is (word ∷ args) (cons_same word name args [] w (no_more_is args b.0 b.1)))
 
--- ---- commands, row by row
+-- ---- opening lines and commands, row by row
 
-pub command_is : (word : List ℕ) (args : List (List ℕ)) (command : Command) → command_of word args ≡ Ok command → IsCommand command (word ∷ args)
-unfolding command_of
-command_is =
-    table_is IsCommand command_forms (
-      file_row IsCommand (codes "write") (λ path bytes. Edit (Write path bytes)) (λ path bytes words h. h),
+pub opening_is : (word : List ℕ) (args : List (List ℕ)) (opening : Opening) → opening_of word args ≡ Ok opening → IsOpening opening (word ∷ args)
+unfolding opening_of
+opening_is word =
+    table_is IsOpening opening_forms unknown word (
+      path_row IsOpening (codes "dir") Dir (λ path words h. h),
+      (
+        file_row IsOpening (codes "file") File (λ path bytes words h. h),
+        tt,
+      ),
+    )
+    (unknown_is IsOpening word)
+
+plain_command_is : (word : List ℕ) → OtherIs IsCommand word (plain_command_of word)
+unfolding OtherIs plain_command_of
+plain_command_is word =
+    table_is IsCommand plain_forms unknown word (
+      plain_row IsCommand (codes "deliver") Deliver (λ words h. h),
       (
         plain_row IsCommand (codes "settle") Settle (λ words h. h),
         (
-          path_row IsCommand (codes "begin") Begin (λ path words h. h),
+          plain_row IsCommand (codes "read") Read (λ words h. h),
           (
-            plain_row IsCommand (codes "read") Read (λ words h. h),
+            plain_row IsCommand (codes "publish") Publish (λ words h. h),
+            tt,
+          ),
+        ),
+      ),
+    )
+    (unknown_is IsCommand word)
+
+path_command_is : (word : List ℕ) → OtherIs IsCommand word (path_command_of word)
+unfolding OtherIs path_command_of
+path_command_is word =
+    table_is IsCommand path_forms (plain_command_of word) word (
+      path_row IsCommand (codes "event") Event (λ path words h. h),
+      (
+        path_row IsCommand (codes "begin") Begin (λ path words h. h),
+        (
+          path_row IsCommand (codes "scan") Scan (λ path words h. h),
+          (
+            path_row IsCommand (codes "find") Find (λ path words h. h),
             (
-              plain_row IsCommand (codes "publish") Publish (λ words h. h),
+              path_row IsCommand (codes "kind") KindOf (λ path words h. h),
               (
-                path_row IsCommand (codes "find") Find (λ path words h. h),
+                path_row IsCommand (codes "version") VersionOf (λ path words h. h),
                 tt,
               ),
             ),
@@ -164,23 +247,63 @@ command_is =
         ),
       ),
     )
+    (plain_command_is word)
 
-path_row_again : {X : Type 0} (name word : List ℕ) (args : List (List ℕ)) (make : Path → X) (path : Path) → IsPathForm name path (word ∷ args) → (word ≡ name) × ((one_path args >>= λ p. Ok (make p)) ≡ Ok (make path))
+pub command_is : (word : List ℕ) (args : List (List ℕ)) (command : Command) → command_of word args ≡ Ok command → IsCommand command (word ∷ args)
+unfolding command_of
+command_is word =
+    table_is IsCommand edit_forms (path_command_of word) word (
+      file_row IsCommand (codes "write") (λ path bytes. Edit (Write path bytes)) (λ path bytes words h. h),
+      (
+        path_row IsCommand (codes "mkdir") (λ path. Edit (Mkdir path)) (λ path words h. h),
+        (
+          path_row IsCommand (codes "remove") (λ path. Edit (Remove path)) (λ path words h. h),
+          (
+            two_path_row IsCommand (codes "move") (λ from to. Edit (Move from to)) (λ from to words h. h),
+            tt,
+          ),
+        ),
+      ),
+    )
+    (path_command_is word)
+
+-- ---- the other way
+
+path_row_again : {X : Type 0} (name word : List ℕ) (args : List (List ℕ)) (make : Path → X) (path : Path) → IsPathForm name path (word ∷ args) → (word ≡ name) × (with_path make args ≡ Ok (make path))
 path_row_again name word args make path h =
     let e = parts_of word name args (path_text path ∷ []) h.1 in
     (e.0, rw (e.1, path_from_again path h.0) refl)
 
-file_row_again : {X : Type 0} (name word : List ℕ) (args : List (List ℕ)) (make : Path → List ℕ → X) (path : Path) (bytes : List ℕ) → IsFileForm name path bytes (word ∷ args)
-    → (word ≡ name) × ((path_and_content args >>= λ a. Ok (make a.0 a.1)) ≡ Ok (make path bytes))
+two_path_row_again : {X : Type 0} (name word : List ℕ) (args : List (List ℕ)) (make : Path → Path → X) (from to : Path) → IsTwoPathForm name from to (word ∷ args) → (word ≡ name) × (with_two_paths make args ≡ Ok (make from to))
+two_path_row_again name word args make from to h =
+    let e = parts_of word name args (path_text from ∷ path_text to ∷ []) h.2 in
+    (e.0, rw (two_paths_again from to args (h.0, h.1, e.1)) refl)
+
+file_row_again : {X : Type 0} (name word : List ℕ) (args : List (List ℕ)) (make : Path → List ℕ → X) (path : Path) (bytes : List ℕ) → IsFileForm name path bytes (word ∷ args) → (word ≡ name) × (with_file make args ≡ Ok (make path bytes))
 file_row_again name word args make path bytes h =
-    let e = parts_of word name args (path_text path ∷ bytes ∷ []) h.2 in
-    (e.0, rw (path_and_content_again path bytes args (h.0, h.1, e.1)) refl)
+    elim h.2 [
+      | inl e ↦ let f = parts_of word name args (path_text path ∷ bytes ∷ []) e in (f.0, rw (one_file_again path bytes args (h.0, h.1, inl f.1)) refl)
+      | inr e ↦ let f = parts_of word name args (path_text path ∷ []) e.1 in (f.0, rw (one_file_again path bytes args (h.0, h.1, inr (e.0, f.1))) refl)
+    ]
+
+pub opening_again : (opening : Opening) (word : List ℕ) (args : List (List ℕ)) → IsOpening opening (word ∷ args) → opening_of word args ≡ Ok opening
+unfolding opening_of
+opening_again (Dir path) word args h = let r = path_row_again (codes "dir") word args Dir path h in rw r.0 r.1
+opening_again (File path bytes) word args h = let r = file_row_again (codes "file") word args File path bytes h in rw r.0 r.1
 
 pub command_again : (command : Command) (word : List ℕ) (args : List (List ℕ)) → IsCommand command (word ∷ args) → command_of word args ≡ Ok command
-unfolding command_of
+unfolding command_of path_command_of plain_command_of
 command_again (Edit (Write path bytes)) word args h = let r = file_row_again (codes "write") word args (λ p bs. Edit (Write p bs)) path bytes h in rw r.0 r.1
+command_again (Edit (Mkdir path)) word args h = let r = path_row_again (codes "mkdir") word args (λ p. Edit (Mkdir p)) path h in rw r.0 r.1
+command_again (Edit (Remove path)) word args h = let r = path_row_again (codes "remove") word args (λ p. Edit (Remove p)) path h in rw r.0 r.1
+command_again (Edit (Move from to)) word args h = let r = two_path_row_again (codes "move") word args (λ p q. Edit (Move p q)) from to h in rw r.0 r.1
+command_again (Event path) word args h = let r = path_row_again (codes "event") word args Event path h in rw r.0 r.1
+command_again Deliver word args h = let e = parts_of word (codes "deliver") args [] h in rw (e.0, e.1) refl
 command_again Settle word args h = let e = parts_of word (codes "settle") args [] h in rw (e.0, e.1) refl
 command_again (Begin path) word args h = let r = path_row_again (codes "begin") word args Begin path h in rw r.0 r.1
 command_again Read word args h = let e = parts_of word (codes "read") args [] h in rw (e.0, e.1) refl
 command_again Publish word args h = let e = parts_of word (codes "publish") args [] h in rw (e.0, e.1) refl
+command_again (Scan path) word args h = let r = path_row_again (codes "scan") word args Scan path h in rw r.0 r.1
 command_again (Find path) word args h = let r = path_row_again (codes "find") word args Find path h in rw r.0 r.1
+command_again (KindOf path) word args h = let r = path_row_again (codes "kind") word args KindOf path h in rw r.0 r.1
+command_again (VersionOf path) word args h = let r = path_row_again (codes "version") word args VersionOf path h in rw r.0 r.1

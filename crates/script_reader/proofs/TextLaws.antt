@@ -11,12 +11,13 @@ use Rattle.script_reader.specs.declared.cause.BadLine.{BadLine}
 use Rattle.script_reader.specs.declared.cause.ScriptError.{ScriptError}
 use Rattle.script_reader.specs.declared.cause.ScriptError.TheVariants as errors
 use Rattle.script_reader.specs.Results.{IfBad, IsScriptOrNoMemory, IsBadOrNoMemory}
+use Rattle.script_reader.specs.declared.script.Opening.{Opening}
 use Rattle.script_reader.specs.declared.script.Line.{Line}
 use Rattle.script_reader.specs.declared.script.Script.{Script}
 use Rattle.script_reader.specs.Gives.{◌>>=◌}
 use Rattle.script_reader.specs.Reading.{no_lines, with_line, after_line, at_line, after_parts, is_line_end, script_of, Reads}
-use Rattle.script_reader.specs.Grammar.{IsCommandLine, AreLines, none, note, line, AreScript, IsTextOf, FirstBad, unended, ended}
-use Rattle.script_reader.proofs.LineLaws.{LineAdds, nothing, command, line_adds, note_read, command_read}
+use Rattle.script_reader.specs.Grammar.{IsOpeningLine, IsCommandLine, AreLines, none, note, line, AreScript, IsTextOf, FirstBad, unended, ended}
+use Rattle.script_reader.proofs.LineLaws.{LineAdds, nothing, setting, command, line_adds, note_read, setting_read, command_read}
 use Rattle.vfs_path.proofs.Cuts.{split_some}
 
 -- the script after some lines, the first being the line n
@@ -47,41 +48,122 @@ run_append kind n s (x ∷ xs) ys t e =
 
 -- ---- the lines of a script are read
 
-lines_run : (kind : TextKind) (texts : List (List ℕ)) (ls : List Line) → AreLines (IsCommandLine kind) texts ls → (n : ℕ) (s : Script) → after_lines kind n s texts ≡ Ok (record { lines = s.lines ++ ls })
+openings_run : (kind : TextKind) (texts : List (List ℕ)) (os : List Opening) → AreLines IsOpeningLine texts os → (n : ℕ) (before : List Opening)
+    → after_lines kind n (record { opening = before; lines = [] }) texts ≡ Ok (record { opening = before ++ os; lines = [] })
 unfolding after_lines
-lines_run kind [] [] none n s = ap (λ (x : List Line). Ok (record { lines = x })) (sym (append-nil s.lines))
+openings_run kind [] [] none n before = ap (λ (x : List Opening). Ok (record { opening = x; lines = [] })) (sym (append-nil before))
+openings_run kind [] (o ∷ os) impossible n before = elim impossible [ ]
+openings_run kind (t ∷ texts) os (note _ _ _ is more) n before = rw (note_read kind (record { opening = before; lines = [] }) t is) (openings_run kind texts os more (n + 1) before)
+openings_run kind (t ∷ texts) (o ∷ os) (line _ _ _ _ is more) n before =
+    rw (setting_read kind (record { opening = before; lines = [] }) t o is refl)
+    (openings_run kind texts os more (n + 1) (before ++ o ∷ []) ∙ ap (λ (x : List Opening). Ok (record { opening = x; lines = [] })) (append_assoc before (o ∷ []) os))
+
+lines_run : (kind : TextKind) (texts : List (List ℕ)) (ls : List Line) → AreLines (IsCommandLine kind) texts ls → (n : ℕ) (s : Script) → after_lines kind n s texts ≡ Ok (record { opening = s.opening; lines = s.lines ++ ls })
+unfolding after_lines
+lines_run kind [] [] none n s = ap (λ (x : List Line). Ok (record { opening = s.opening; lines = x })) (sym (append-nil s.lines))
 lines_run kind [] (l ∷ ls) impossible n s = elim impossible [ ]
 lines_run kind (t ∷ texts) ls (note _ _ _ is more) n s = rw (note_read kind s t is) (lines_run kind texts ls more (n + 1) s)
 lines_run kind (t ∷ texts) (l ∷ ls) (line _ _ _ _ is more) n s =
     rw (command_read kind s t l is)
-    (lines_run kind texts ls more (n + 1) (with_line s l) ∙ ap (λ (x : List Line). Ok (record { lines = x })) (append_assoc s.lines (l ∷ []) ls))
+    (lines_run kind texts ls more (n + 1) (with_line s l) ∙ ap (λ (x : List Line). Ok (record { opening = s.opening; lines = x })) (append_assoc s.lines (l ∷ []) ls))
 
 pub script_run : (kind : TextKind) (n : ℕ) (lines : List (List ℕ)) (s : Script) → AreScript kind lines s → after_lines kind n no_lines lines ≡ Ok s
-script_run kind n lines s h = lines_run kind lines s.lines h n no_lines
+script_run kind n lines s h =
+    let first = openings_run kind h.first s.opening h.opening n [] in
+    rw h.both (run_append kind n no_lines h.first h.second _ first ∙ lines_run kind h.second s.lines h.commands (n + length h.first) (record { opening = s.opening; lines = [] }))
 
 -- ---- and lines that are read are those of a script
 
-record Added (kind : TextKind) (texts : List (List ℕ)) (s now : Script) : Type 0 where
+-- the texts add command lines alone
+record AddsLines (kind : TextKind) (texts : List (List ℕ)) (s now : Script) : Type 0 where
   items : List Line
   lines : AreLines (IsCommandLine kind) texts items
-  now-is : now ≡ record { lines = s.lines ++ items }
+  now-is : now ≡ record { opening = s.opening; lines = s.lines ++ items }
 
-added_next : (kind : TextKind) (s : Script) (text : List ℕ) (t now : Script) (texts : List (List ℕ)) → LineAdds kind s text t → Added kind texts t now → Added kind (text ∷ texts) s now
-added_next kind s text _ now texts (nothing is) h = record { items = h.items; lines = note text texts h.items is h.lines; now-is = h.now-is }
-added_next kind s text _ now texts (command l is) h =
-    record { items = l ∷ h.items; lines = line text l texts h.items is h.lines; now-is = h.now-is ∙ ap (λ (x : List Line). record { lines = x }) (append_assoc s.lines (l ∷ []) h.items) }
+snoc_some : {X : Type 0} (xs : List X) (x : X) → xs ++ x ∷ [] ≡ [] → ⊥
+snoc_some [] x e = absurd cc
+snoc_some (y ∷ ys) x e = absurd cc
 
-run_adds : (kind : TextKind) (n : ℕ) (texts : List (List ℕ)) (s now : Script) → after_lines kind n s texts ≡ Ok now → Added kind texts s now
+still_some : (kind : TextKind) (s : Script) (text : List ℕ) (t : Script) → LineAdds kind s text t → (s.lines ≡ [] → ⊥) → t.lines ≡ [] → ⊥
+still_some kind s text _ (nothing is) some e = some e
+still_some kind s text _ (setting o is bare) some e = some bare
+still_some kind s text _ (command l is) some e = snoc_some s.lines l e
+
+line_then : (kind : TextKind) (s : Script) (text : List ℕ) (t now : Script) (texts : List (List ℕ)) → LineAdds kind s text t → (s.lines ≡ [] → ⊥) → AddsLines kind texts t now → AddsLines kind (text ∷ texts) s now
+line_then kind s text _ now texts (nothing is) some h = record { items = h.items; lines = note text texts h.items is h.lines; now-is = h.now-is }
+line_then kind s text _ now texts (setting o is bare) some h = absurd (some bare)
+line_then kind s text _ now texts (command l is) some h =
+    record { items = l ∷ h.items; lines = line text l texts h.items is h.lines; now-is = h.now-is ∙ ap (λ (x : List Line). record { opening = s.opening; lines = x }) (append_assoc s.lines (l ∷ []) h.items) }
+
+-- behind a command line there are command lines alone
+lines_only : (kind : TextKind) (n : ℕ) (texts : List (List ℕ)) (s now : Script) → (s.lines ≡ [] → ⊥) → after_lines kind n s texts ≡ Ok now → AddsLines kind texts s now
 unfolding after_lines
-run_adds kind n [] s now e = record { items = []; lines = none; now-is = let same : s ≡ now = cc in sym same ∙ ap (λ (x : List Line). record { lines = x }) (sym (append-nil s.lines)) }
-run_adds kind n (text ∷ texts) s now e =
+lines_only kind n [] s now some e = record { items = []; lines = none; now-is = let same : s ≡ now = cc in sym same ∙ ap (λ (x : List Line). record { opening = s.opening; lines = x }) (sym (append-nil s.lines)) }
+lines_only kind n (text ∷ texts) s now some e =
     let b = line_ok n (after_line kind s text) (λ u. after_lines kind (n + 1) u texts) now e in
-    added_next kind s text b.0 now texts (line_adds kind s text b.0 b.1) (run_adds kind (n + 1) texts b.0 now b.2)
+    let a = line_adds kind s text b.0 b.1 in
+    line_then kind s text b.0 now texts a some (lines_only kind (n + 1) texts b.0 now (still_some kind s text b.0 a some) b.2)
+
+-- the texts add opening lines, and then command lines
+record AddsBoth (kind : TextKind) (texts : List (List ℕ)) (s now : Script) : Type 0 where
+  first : List (List ℕ)
+  second : List (List ℕ)
+  items : List Opening
+  parts : texts ≡ first ++ second
+  opening : AreLines IsOpeningLine first items
+  commands : AreLines (IsCommandLine kind) second now.lines
+  now-is : now.opening ≡ s.opening ++ items
+
+first_command : (kind : TextKind) (s : Script) (text : List ℕ) (l : Line) (now : Script) (texts : List (List ℕ)) → IsCommandLine kind text l → s.lines ≡ [] → AddsLines kind texts (with_line s l) now → AddsBoth kind (text ∷ texts) s now
+first_command kind s text l now texts is bare h =
+    let all : now.lines ≡ l ∷ h.items = ap (λ (x : Script). x.lines) h.now-is ∙ rw bare refl in
+    record {
+      first = [];
+      second = text ∷ texts;
+      items = [];
+      parts = refl;
+      opening = none;
+      commands = subst (λ (x : List Line). AreLines (IsCommandLine kind) (text ∷ texts) x) (sym all) (line text l texts h.items is h.lines);
+      now-is = ap (λ (x : Script). x.opening) h.now-is ∙ sym (append-nil s.opening);
+    }
+
+both_then : (kind : TextKind) (s : Script) (text : List ℕ) (t now : Script) (texts : List (List ℕ)) → LineAdds kind s text t → s.lines ≡ [] → (t.lines ≡ [] → AddsBoth kind texts t now) → ((t.lines ≡ [] → ⊥) → AddsLines kind texts t now) → AddsBoth kind (text ∷ texts) s now
+both_then kind s text _ now texts (nothing is) bare more only =
+    let h = more bare in
+    record { first = text ∷ h.first; second = h.second; items = h.items; parts = ap (λ (x : List (List ℕ)). text ∷ x) h.parts; opening = note text h.first h.items is h.opening; commands = h.commands; now-is = h.now-is }
+both_then kind s text _ now texts (setting o is e) bare more only =
+    let h = more bare in
+    record {
+      first = text ∷ h.first;
+      second = h.second;
+      items = o ∷ h.items;
+      parts = ap (λ (x : List (List ℕ)). text ∷ x) h.parts;
+      opening = line text o h.first h.items is h.opening;
+      commands = h.commands;
+      now-is = h.now-is ∙ append_assoc s.opening (o ∷ []) h.items;
+    }
+both_then kind s text _ now texts (command l is) bare more only = first_command kind s text l now texts is bare (only (λ e. snoc_some s.lines l e))
+
+run_adds : (kind : TextKind) (n : ℕ) (texts : List (List ℕ)) (s now : Script) → s.lines ≡ [] → after_lines kind n s texts ≡ Ok now → AddsBoth kind texts s now
+unfolding after_lines
+run_adds kind n [] s now bare e =
+    let same : s ≡ now = cc in
+    subst (λ (x : Script). AddsBoth kind [] s x) same
+    (record { first = []; second = []; items = []; parts = refl; opening = none; commands = subst (λ (x : List Line). AreLines (IsCommandLine kind) [] x) (sym bare) none; now-is = sym (append-nil s.opening) })
+run_adds kind n (text ∷ texts) s now bare e =
+    let b = line_ok n (after_line kind s text) (λ u. after_lines kind (n + 1) u texts) now e in
+    both_then kind s text b.0 now texts (line_adds kind s text b.0 b.1) bare (λ still. run_adds kind (n + 1) texts b.0 now still b.2) (λ some. lines_only kind (n + 1) texts b.0 now some b.2)
 
 pub run_is_script : (kind : TextKind) (n : ℕ) (lines : List (List ℕ)) (s : Script) → after_lines kind n no_lines lines ≡ Ok s → AreScript kind lines s
 run_is_script kind n lines s e =
-    let h = run_adds kind n lines no_lines s e in
-    subst (λ (x : List Line). AreLines (IsCommandLine kind) lines x) (sym (ap (λ (x : Script). x.lines) h.now-is)) h.lines
+    let h = run_adds kind n lines no_lines s refl e in
+    record {
+      first = h.first;
+      second = h.second;
+      both = h.parts;
+      opening = subst (λ (x : List Opening). AreLines IsOpeningLine h.first x) (sym h.now-is) h.opening;
+      commands = h.commands;
+    }
 
 -- ---- the end of a text
 
@@ -256,3 +338,15 @@ pub not_both_of : (kind : TextKind) (text : List ℕ) (s : Script) (b : BadLine)
 not_both_of kind text s b good bad =
     let e = text_again kind text s good in
     let f = fault_again kind text b bad in absurd cc
+
+-- ---- one at most
+
+pub one_script : (kind : TextKind) (text : List ℕ) (s t : Script) → IsTextOf kind text s → IsTextOf kind text t → s ≡ t
+one_script kind text s t h g =
+    let e = text_again kind text s h in
+    let f = text_again kind text t g in cc
+
+pub one_fault : (kind : TextKind) (text : List ℕ) (b d : BadLine) → FirstBad kind text b → FirstBad kind text d → b ≡ d
+one_fault kind text b d h g =
+    let e = fault_again kind text b h in
+    let f = fault_again kind text d g in cc

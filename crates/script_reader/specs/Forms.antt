@@ -1,4 +1,4 @@
--- The forms of command lines: how the words after a caller are read.
+-- The forms of lines: how the words after a caller, or after `set`, are read.
 use Rattle.std.specs.Prelude.{ℕ, List, [], ◌∷◌, Result, Ok, Err, length, nat_lt, if◌then◌else◌, codes}
 use Rattle.std.specs.Str.{bytes_eq}
 use Rattle.vfs_model.specs.Paths.{Path}
@@ -7,6 +7,8 @@ use Rattle.vfs_path.specs.Texts.{path_of}
 use Rattle.world_model.specs.declared.edit.Edit.TheVariants as edits
 use Rattle.script_reader.specs.declared.cause.Cause.{Cause}
 use Rattle.script_reader.specs.declared.cause.Cause.TheVariants as causes
+use Rattle.script_reader.specs.declared.script.Opening.{Opening}
+use Rattle.script_reader.specs.declared.script.Opening.TheVariants as openings
 use Rattle.script_reader.specs.declared.script.Command.{Command}
 use Rattle.script_reader.specs.declared.script.Command.TheVariants as commands
 use Rattle.script_reader.specs.Gives.{◌>>=◌}
@@ -26,42 +28,114 @@ path_from word = or_bad_path (path_of word)
 abbrev pub content_from : List ℕ → Result (List ℕ) Cause
 content_from word = if nat_lt 1048576 (length word) then Err causes.TooLarge else Ok word
 
+-- the path and the contents of a file
+abbrev pub file_from : List ℕ → List ℕ → Result (Path × List ℕ) Cause
+file_from word bytes = path_from word >>= λ path. content_from bytes >>= λ content. Ok (path, content)
+
 -- ---- what may stand after the second word
 
+-- nothing
 abbrev pub no_more : List (List ℕ) → Result (Unit {0}) Cause
 no_more [] = Ok tt
 no_more (word ∷ more) = Err causes.WrongCount
 
+-- a path
 abbrev pub one_path : List (List ℕ) → Result Path Cause
 one_path (word ∷ []) = path_from word
 one_path _ = Err causes.WrongCount
 
--- a path, and the contents of a file
-abbrev pub path_and_content : List (List ℕ) → Result (Path × List ℕ) Cause
-path_and_content (word ∷ bytes ∷ []) = path_from word >>= λ path. content_from bytes >>= λ content. Ok (path, content)
-path_and_content _ = Err causes.WrongCount
+-- two paths, the left one first
+abbrev pub two_paths : List (List ℕ) → Result (Path × Path) Cause
+two_paths (word ∷ other ∷ []) = path_from word >>= λ from. path_from other >>= λ to. Ok (from, to)
+two_paths _ = Err causes.WrongCount
 
--- ---- the table of forms, by the second word
+-- a path, and the contents of a file, which is empty where they are not given
+abbrev pub one_file : List (List ℕ) → Result (Path × List ℕ) Cause
+one_file (word ∷ []) = file_from word []
+one_file (word ∷ bytes ∷ []) = file_from word bytes
+one_file _ = Err causes.WrongCount
+
+-- ---- forms, by the second word
 
 -- how the words after the second are read
 abbrev pub Form : Type 0 → Type 0
 Form X = List (List ℕ) → Result X Cause
 
--- the form with this name
-abbrev pub form_named : {X : Type 0} → List (List ℕ × Form X) → List ℕ → Form X
-form_named [] word args = Err causes.UnknownWord
-form_named (row ∷ rows) word args = if bytes_eq word row.0 then row.1 args else form_named rows word args
+-- the word alone
+abbrev pub alone : {X : Type 0} → X → Form X
+alone it args = no_more args >>= λ _. Ok it
 
-abbrev pub command_forms : List (List ℕ × Form Command)
-command_forms =
-    (codes "write", λ args. path_and_content args >>= λ a. Ok (commands.Edit (edits.Write a.0 a.1)))
-    ∷ (codes "settle", λ args. no_more args >>= λ _. Ok commands.Settle)
-    ∷ (codes "begin", λ args. one_path args >>= λ path. Ok (commands.Begin path))
-    ∷ (codes "read", λ args. no_more args >>= λ _. Ok commands.Read)
-    ∷ (codes "publish", λ args. no_more args >>= λ _. Ok commands.Publish)
-    ∷ (codes "find", λ args. one_path args >>= λ path. Ok (commands.Find path))
+-- the word and a path
+abbrev pub with_path : {X : Type 0} → (Path → X) → Form X
+with_path make args = one_path args >>= λ path. Ok (make path)
+
+-- the word and two paths
+abbrev pub with_two_paths : {X : Type 0} → (Path → Path → X) → Form X
+with_two_paths make args = two_paths args >>= λ paths. Ok (make paths.0 paths.1)
+
+-- the word, a path and the contents of a file
+abbrev pub with_file : {X : Type 0} → (Path → List ℕ → X) → Form X
+with_file make args = one_file args >>= λ file. Ok (make file.0 file.1)
+
+-- the form with this name, or another where none of the rows has it
+abbrev pub form_named : {X : Type 0} → List (List ℕ × Form X) → Form X → List ℕ → Form X
+form_named [] other word args = other args
+form_named (row ∷ rows) other word args = if bytes_eq word row.0 then row.1 args else form_named rows other word args
+
+-- a word that names no form
+abbrev pub unknown : {X : Type 0} → Form X
+unknown args = Err causes.UnknownWord
+
+-- ---- the tables
+
+-- the opening lines
+abbrev pub opening_forms : List (List ℕ × Form Opening)
+opening_forms =
+    (codes "dir", with_path openings.Dir)
+    ∷ (codes "file", with_file openings.File)
     ∷ []
 
--- the command of a second word and the words after it
+-- the commands that are a word alone
+abbrev pub plain_forms : List (List ℕ × Form Command)
+plain_forms =
+    (codes "deliver", alone commands.Deliver)
+    ∷ (codes "settle", alone commands.Settle)
+    ∷ (codes "read", alone commands.Read)
+    ∷ (codes "publish", alone commands.Publish)
+    ∷ []
+
+-- the edits
+abbrev pub edit_forms : List (List ℕ × Form Command)
+edit_forms =
+    (codes "write", with_file (λ path bytes. commands.Edit (edits.Write path bytes)))
+    ∷ (codes "mkdir", with_path (λ path. commands.Edit (edits.Mkdir path)))
+    ∷ (codes "remove", with_path (λ path. commands.Edit (edits.Remove path)))
+    ∷ (codes "move", with_two_paths (λ from to. commands.Edit (edits.Move from to)))
+    ∷ []
+
+-- the other commands on a path
+abbrev pub path_forms : List (List ℕ × Form Command)
+path_forms =
+    (codes "event", with_path commands.Event)
+    ∷ (codes "begin", with_path commands.Begin)
+    ∷ (codes "scan", with_path commands.Scan)
+    ∷ (codes "find", with_path commands.Find)
+    ∷ (codes "kind", with_path commands.KindOf)
+    ∷ (codes "version", with_path commands.VersionOf)
+    ∷ []
+
+-- the opening line of a word after `set` and the words after it
+unfoldable pub opening_of : List ℕ → List (List ℕ) → Result Opening Cause
+opening_of word args = form_named opening_forms unknown word args
+
+-- the command of a second word and the words after it, where it is a word alone
+unfoldable pub plain_command_of : List ℕ → List (List ℕ) → Result Command Cause
+plain_command_of word args = form_named plain_forms unknown word args
+
+-- where it is a word alone, or on a path and no edit
+unfoldable pub path_command_of : List ℕ → List (List ℕ) → Result Command Cause
+path_command_of word args = form_named path_forms (plain_command_of word) word args
+
+-- the command of a second word and the words after it, whatever it is
 unfoldable pub command_of : List ℕ → List (List ℕ) → Result Command Cause
-command_of word args = form_named command_forms word args
+command_of word args = form_named edit_forms (path_command_of word) word args

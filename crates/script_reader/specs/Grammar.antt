@@ -1,44 +1,63 @@
 -- What the text of a script is, apart from any reading.
-use Rattle.std.specs.Prelude.{◌≡◌, ℕ, ◌+◌, ◌≤◌, ◌<◌, List, [], ◌∷◌, ◌++◌, length, true, false, Ok, Err, codes, ◌==◌}
-use Rattle.std.specs.List.{slice_split, AllByRecursion as Each}
+use Rattle.std.specs.Prelude.{◌≡◌, ℕ, ◌+◌, ◌≤◌, ◌⊎◌, List, [], ◌∷◌, ◌++◌, length, true, false, Ok, Err, codes, ◌==◌}
+use Rattle.std.specs.List.{slice_split}
 use Rattle.std.specs.Fmt.{decimal}
 use Rattle.vfs_model.specs.Paths.{Path}
 use Rattle.vfs_path.specs.Texts.{IsPath, path_text}
 use Rattle.world_model.specs.declared.edit.Edit.{Edit as EditValue}
-use Rattle.world_model.specs.declared.edit.Edit.TheVariants.{Write}
+use Rattle.world_model.specs.declared.edit.Edit.TheVariants.{Write, Mkdir, Remove, Move}
 use Rattle.script_reader.specs.declared.cause.Cause.{Cause}
 use Rattle.script_reader.specs.declared.cause.Cause.TheVariants as causes
 use Rattle.script_reader.specs.declared.cause.BadLine.{BadLine}
 use Rattle.script_reader.specs.declared.script.TextKind.{TextKind}
+use Rattle.script_reader.specs.declared.script.Opening.{Opening}
+use Rattle.script_reader.specs.declared.script.Opening.TheVariants.{Dir, File}
 use Rattle.script_reader.specs.declared.script.Command.{Command}
-use Rattle.script_reader.specs.declared.script.Command.TheVariants.{Edit, Settle, Begin, Read, Publish, Find}
+use Rattle.script_reader.specs.declared.script.Command.TheVariants.{Edit, Event, Deliver, Settle, Begin, Read, Publish, Scan, Find, KindOf, VersionOf}
 use Rattle.script_reader.specs.declared.script.Line.{Line}
 use Rattle.script_reader.specs.declared.script.Script.{Script}
 use Rattle.script_reader.specs.Words.{is_note, words_of}
 use Rattle.script_reader.specs.Reading.{is_in, after_line, is_line_end}
 
--- ---- the words of a command line
+-- ---- the forms, each with a name of its own
 
 -- a name and a path
 abbrev pub IsPathForm : List ℕ → Path → List (List ℕ) → Type 0
 IsPathForm name path words = IsPath path × (words ≡ name ∷ path_text path ∷ [])
 
--- a name, a path and the contents of a file, of limited size
+-- a name and two paths
+abbrev pub IsTwoPathForm : List ℕ → Path → Path → List (List ℕ) → Type 0
+IsTwoPathForm name from to words = IsPath from × IsPath to × (words ≡ name ∷ path_text from ∷ path_text to ∷ [])
+
+-- a name, a path and the contents of a file, of limited size; where the file is empty, they may be left out
 abbrev pub IsFileForm : List ℕ → Path → List ℕ → List (List ℕ) → Type 0
-IsFileForm name path bytes words = IsPath path × (length bytes ≤ 1048576) × (words ≡ name ∷ path_text path ∷ bytes ∷ [])
+IsFileForm name path bytes words = IsPath path × (length bytes ≤ 1048576) × ((words ≡ name ∷ path_text path ∷ bytes ∷ []) ⊎ ((bytes ≡ []) × (words ≡ name ∷ path_text path ∷ [])))
+
+-- the words of an opening line after `set`
+abbrev pub IsOpening : Opening → List (List ℕ) → Type 0
+IsOpening (Dir path) words = IsPathForm (codes "dir") path words
+IsOpening (File path bytes) words = IsFileForm (codes "file") path bytes words
 
 -- the words of an edit after its caller
 abbrev pub IsEdit : EditValue → List (List ℕ) → Type 0
 IsEdit (Write path bytes) words = IsFileForm (codes "write") path bytes words
+IsEdit (Mkdir path) words = IsPathForm (codes "mkdir") path words
+IsEdit (Remove path) words = IsPathForm (codes "remove") path words
+IsEdit (Move from to) words = IsTwoPathForm (codes "move") from to words
 
 -- the words of a command after its caller
 abbrev pub IsCommand : Command → List (List ℕ) → Type 0
 IsCommand (Edit edit) words = IsEdit edit words
+IsCommand (Event path) words = IsPathForm (codes "event") path words
+IsCommand Deliver words = words ≡ codes "deliver" ∷ []
 IsCommand Settle words = words ≡ codes "settle" ∷ []
 IsCommand (Begin path) words = IsPathForm (codes "begin") path words
 IsCommand Read words = words ≡ codes "read" ∷ []
 IsCommand Publish words = words ≡ codes "publish" ∷ []
+IsCommand (Scan path) words = IsPathForm (codes "scan") path words
 IsCommand (Find path) words = IsPathForm (codes "find") path words
+IsCommand (KindOf path) words = IsPathForm (codes "kind") path words
+IsCommand (VersionOf path) words = IsPathForm (codes "version") path words
 
 -- ---- lines
 
@@ -46,12 +65,18 @@ IsCommand (Find path) words = IsPathForm (codes "find") path words
 abbrev pub HasWords : List ℕ → List (List ℕ) → Type 0
 HasWords text words = (is_note text ≡ false) × (words_of text ≡ Ok words)
 
+-- the text is that of an opening line
+pub record IsOpeningLine (text : List ℕ) (opening : Opening) : Type 0 where
+  pub words : List (List ℕ)
+  pub spelled : HasWords text (codes "set" ∷ words)
+  pub form : IsOpening opening words
+
 -- the text is that of a command line
 pub record IsCommandLine (kind : TextKind) (text : List ℕ) (line : Line) : Type 0 where
   pub words : List (List ℕ)
   pub spelled : HasWords text (decimal line.caller ∷ words)
   pub caller : line.caller ≤ 15
-  pub command : IsCommand line.command words
+  pub form : IsCommand line.command words
   pub allowed : is_in kind line.command ≡ true
 
 -- notes aside, the texts are those of the items, one by one
@@ -62,9 +87,13 @@ pub data AreLines {Item : Type 0} (IsLine : List ℕ → Item → Type 0) : List
 
 -- ---- texts
 
--- the texts of lines are those of the script
-abbrev pub AreScript : TextKind → List (List ℕ) → Script → Type 0
-AreScript kind lines s = AreLines (IsCommandLine kind) lines s.lines
+-- the texts of lines are those of the script: of its opening lines first, and then of its command lines
+pub record AreScript (kind : TextKind) (lines : List (List ℕ)) (s : Script) : Type 0 where
+  pub first : List (List ℕ)
+  pub second : List (List ℕ)
+  pub both : lines ≡ first ++ second
+  pub opening : AreLines IsOpeningLine first s.opening
+  pub commands : AreLines (IsCommandLine kind) second s.lines
 
 -- the text is that of the script: each line is ended, and the lines are those of the script
 pub record IsTextOf (kind : TextKind) (text : List ℕ) (s : Script) : Type 0 where
@@ -78,18 +107,3 @@ pub data FirstBad (kind : TextKind) (text : List ℕ) : BadLine → Type 0 where
       → FirstBad kind text (record { line = length before + 1; cause = causes.NoLineEnd })
   ended : (before more : List (List ℕ)) (s : Script) (bad last : List ℕ) (cause : Cause) → slice_split is_line_end text ≡ (before ++ bad ∷ more) ++ last ∷ [] → AreScript kind before s → after_line kind s bad ≡ Err cause
       → FirstBad kind text (record { line = length before + 1; cause = cause })
-
--- ---- what every script keeps
-
--- the fact holds of the path where the command begins a scan
-abbrev pub IfBegin : Command → (Path → Type 0) → Type 0
-IfBegin (Begin path) P = P path
-IfBegin _ P = Unit {0}
-
--- the line begins no scan of the root
-abbrev pub BeginsBelowRoot : Line → Type 0
-BeginsBelowRoot l = IfBegin l.command (λ path. 0 < length path)
-
--- no line begins a scan of the root
-abbrev pub BeginBelowRoot : List Line → Type 0
-BeginBelowRoot lines = Each BeginsBelowRoot lines

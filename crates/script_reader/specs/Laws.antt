@@ -1,22 +1,30 @@
 -- Laws of scripts.
-use Rattle.std.specs.Prelude.{◌≡◌, ℕ, ◌<◌, ◌^◌, List, ◌∷◌, Some, Ok, Err, ◌↔◌, ◌⊎◌}
+use Rattle.std.specs.Prelude.{◌≡◌, ℕ, ◌<◌, ◌^◌, List, ◌∷◌, false, Some, Ok, Err, ◌↔◌, ◌⊎◌}
 use Rattle.std.specs.Fmt.{decimal}
+use Rattle.script_reader.specs.declared.cause.Cause.{Cause}
 use Rattle.script_reader.specs.declared.cause.BadLine.{BadLine}
 use Rattle.script_reader.specs.declared.script.TextKind.{TextKind}
+use Rattle.script_reader.specs.declared.script.Opening.{Opening}
 use Rattle.script_reader.specs.declared.script.Command.{Command}
 use Rattle.script_reader.specs.declared.script.Script.{Script}
 use Rattle.script_reader.specs.Numbers.{number_of}
-use Rattle.script_reader.specs.Forms.{command_of}
-use Rattle.script_reader.specs.Reading.{script_of}
-use Rattle.script_reader.specs.Grammar.{IsCommand, IsTextOf, FirstBad}
+use Rattle.script_reader.specs.Forms.{opening_of, command_of}
+use Rattle.script_reader.specs.Reading.{after_line, script_of}
+use Rattle.script_reader.specs.Words.{is_note}
+use Rattle.script_reader.specs.Holds.{Holds}
+use Rattle.script_reader.specs.Grammar.{IsOpening, IsCommand, IsTextOf, FirstBad}
 
 -- a word is read as a number exactly where it is the number's decimal spelling
 abbrev pub NumbersAreDecimal : Type 0
 NumbersAreDecimal = (word : List ℕ) (n : ℕ) → n < 2 ^ 32 → ((number_of word ≡ Some n) ↔ (word ≡ decimal n))
 
+-- words are read as an opening line exactly where they are its words
+abbrev pub OpeningsAreRead : Type 0
+OpeningsAreRead = (word : List ℕ) (args : List (List ℕ)) (opening : Opening) → (opening_of word args ≡ Ok opening) ↔ IsOpening opening (word ∷ args)
+
 -- words are read as a command exactly where they are its words
-abbrev pub FormsAreRead : Type 0
-FormsAreRead = (word : List ℕ) (args : List (List ℕ)) (command : Command) → (command_of word args ≡ Ok command) ↔ IsCommand command (word ∷ args)
+abbrev pub CommandsAreRead : Type 0
+CommandsAreRead = (word : List ℕ) (args : List (List ℕ)) (command : Command) → (command_of word args ≡ Ok command) ↔ IsCommand command (word ∷ args)
 
 -- a text is read as a script exactly where it is the text of that script
 abbrev pub TextsAreRead : Type 0
@@ -29,3 +37,11 @@ FaultsAreFirst = (kind : TextKind) (text : List ℕ) (bad : BadLine) → (script
 -- a text is that of a script or has a first bad line, and not both
 abbrev pub TextsAreDecided : Type 0
 TextsAreDecided = (kind : TextKind) (text : List ℕ) → (((s : Script) × IsTextOf kind text s) ⊎ ((bad : BadLine) × FirstBad kind text bad)) × ((s : Script) (bad : BadLine) → IsTextOf kind text s → FirstBad kind text bad → ⊥)
+
+-- a text is that of one script at most, and has one first bad line at most
+abbrev pub TextsAreUnambiguous : Type 0
+TextsAreUnambiguous = (kind : TextKind) (text : List ℕ) → ((s t : Script) → IsTextOf kind text s → IsTextOf kind text t → s ≡ t) × ((bad other : BadLine) → FirstBad kind text bad → FirstBad kind text other → bad ≡ other)
+
+-- a cause that is told of a line holds of it, and the line is no note
+abbrev pub CausesHold : Type 0
+CausesHold = (kind : TextKind) (before : Script) (text : List ℕ) (cause : Cause) → after_line kind before text ≡ Err cause → (is_note text ≡ false) × Holds before text cause

@@ -5,5 +5,6 @@ pub mod Words
 pub mod Forms
 pub mod Reading
 pub mod Grammar
+pub mod Holds
 pub mod Results
 pub mod Laws

@@ -1,5 +1,5 @@
 -- A text as a script, or the first line that no script has there.
-use Rattle.std.specs.Prelude.{◌≡◌, ℕ, ◌+◌, List, [], ◌∷◌, ◌++◌, length, Bool, true, false, Option, Some, None, Result, Ok, Err, nat_le, ◌==◌, if◌then◌else◌, codes}
+use Rattle.std.specs.Prelude.{◌≡◌, ℕ, ◌+◌, List, [], ◌∷◌, ◌++◌, length, Bool, true, Option, Some, None, Result, Ok, Err, nat_le, ◌==◌, if◌then◌else◌, codes}
 use Rattle.std.specs.List.{slice_split}
 use Rattle.std.specs.Str.{bytes_eq}
 use Rattle.script_reader.specs.declared.cause.Cause.{Cause}
@@ -11,36 +11,39 @@ use Rattle.script_reader.specs.declared.cause.ScriptError.TheVariants as errors
 use Rattle.script_reader.specs.declared.script.TextKind.{TextKind}
 use Rattle.script_reader.specs.declared.script.TextKind.TheVariants as kinds
 use Rattle.script_reader.specs.declared.script.Command.{Command}
-use Rattle.script_reader.specs.declared.script.Command.TheVariants as commands
+use Rattle.script_reader.specs.declared.script.Opening.{Opening}
 use Rattle.script_reader.specs.declared.script.Line.{Line}
 use Rattle.script_reader.specs.declared.script.Script.{Script}
 use Rattle.script_reader.specs.Gives.{◌>>=◌, Fails}
 use Rattle.script_reader.specs.Numbers.{number_of}
 use Rattle.script_reader.specs.Words.{is_note, words_of}
-use Rattle.script_reader.specs.Forms.{command_of}
+use Rattle.script_reader.specs.Forms.{opening_of, command_of}
 
--- whether a text of this kind may have the command: the root is not scanned
+-- whether a text of this kind may have the command: a replay may have every command
 abbrev pub is_in : TextKind → Command → Bool
-is_in kinds.Replay (commands.Begin []) = false
-is_in kinds.Replay _ = true
+is_in kinds.Replay command = true
 
 -- the script before its first line
 abbrev pub no_lines : Script
-no_lines = record { lines = [] }
+no_lines = record { opening = []; lines = [] }
 
--- the script with one more line
+-- the script with one more opening line
+abbrev pub with_opening : Script → Opening → Script
+with_opening before opening = record { opening = before.opening ++ opening ∷ []; lines = before.lines }
+
+-- the script with one more command line
 abbrev pub with_line : Script → Line → Script
-with_line before line = record { lines = before.lines ++ line ∷ [] }
+with_line before line = record { opening = before.opening; lines = before.lines ++ line ∷ [] }
 
 -- the caller with this number, from 0 to 15
 abbrev pub caller_from : Option ℕ → Result ℕ Cause
 caller_from None = Err causes.BadCaller
 caller_from (Some n) = if nat_le n 15 then Ok n else Err causes.BadCaller
 
--- the words after `set`: no setting is known
-abbrev pub with_setting : List (List ℕ) → Result Script Cause
-with_setting [] = Err causes.WrongCount
-with_setting (word ∷ args) = Err causes.UnknownWord
+-- the words after `set`, where no command line came before
+abbrev pub with_setting : Script → List (List ℕ) → Result Script Cause
+with_setting before [] = Err causes.WrongCount
+with_setting before (word ∷ args) = opening_of word args >>= λ opening. Ok (with_opening before opening)
 
 -- the words after the number of a caller
 abbrev pub with_command : TextKind → Script → ℕ → List (List ℕ) → Result Script Cause
@@ -51,7 +54,9 @@ with_command kind before caller (word ∷ args) =
 -- the script with one more line, by its words
 unfoldable pub with_words : TextKind → Script → List (List ℕ) → Result Script Cause
 with_words kind before [] = Err causes.BadCaller
-with_words kind before (first ∷ more) = if bytes_eq first (codes "set") then with_setting more else caller_from (number_of first) >>= λ caller. with_command kind before caller more
+with_words kind before (first ∷ more) =
+    if bytes_eq first (codes "set") then (if length before.lines == 0 then with_setting before more else Err causes.LateSetting)
+    else caller_from (number_of first) >>= λ caller. with_command kind before caller more
 
 -- the script with one more line of text; the causes of a bad line are told in the order in which they stand here
 unfoldable pub after_line : TextKind → Script → List ℕ → Result Script Cause

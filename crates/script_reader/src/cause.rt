@@ -10,9 +10,8 @@ use vfs_path::PathError;
 /// What is wrong with a line.
 ///
 /// Where several hold, the first of these is told: `NoLineEnd`, `EmptyWord`, `BadEscape`,
-/// `BadCaller`, `WrongCount` for a missing second word, `UnknownWord`, `WrongCount`, and then what
-/// the words after the second say from left to right. The begin of a scan of the root, which is no
-/// form, is told last.
+/// `BadCaller`, `LateSetting`, `WrongCount` for a missing second word, `UnknownWord`, `WrongCount`,
+/// and then what the words after the second say, from left to right.
 #[derive(Clone, Copy, Debug, PartialEq, Eq)]
 pub enum Cause {
     /// The text does not end with LF, and this is what stands after the last LF.
@@ -21,10 +20,12 @@ pub enum Cause {
     BadEscape,
     /// The line is no note and has a space at an end, or two together.
     EmptyWord,
-    /// The second word is no command, or the first is `set`: no setting is known.
+    /// The second word is no command, or no setting where the first is `set`.
     UnknownWord,
     /// The first word is neither `set` nor a number from 0 to 15.
     BadCaller,
+    /// The first word is `set`, and a command line came before.
+    LateSetting,
     /// The line has no second word, or more or fewer words than its form.
     WrongCount,
     /// The text of a path is refused; the refusal is not want of memory.
@@ -44,6 +45,7 @@ impl Cause {
             Cause::EmptyWord => 3,
             Cause::UnknownWord => 4,
             Cause::BadCaller => 5,
+            Cause::LateSetting => 8,
             Cause::WrongCount => 9,
             Cause::BadPath(_) => 10,
             Cause::TooLarge => 11,

@@ -1,38 +1,46 @@
-//! The forms of command lines.
+//! The forms of lines.
 
 ghost use Rattle.std.specs.Prelude.{◌≡◌};
 ghost use Rattle.script_reader.specs.Gives.{Gives};
-ghost use Rattle.script_reader.specs.Forms.{path_from, content_from, no_more, one_path, path_and_content, command_of};
+ghost use Rattle.script_reader.specs.Forms.{path_from, content_from, file_from, no_more, one_path, two_paths, one_file, opening_of, plain_command_of, path_command_of, command_of};
 
 use crate::cause::{Cause, LineError};
-use crate::script::Command;
+use crate::script::{Command, Opening};
 use crate::words::Word;
 use merkle_hash::Bytes;
 use std::alloc::Global;
 use vfs_path::{Path, PathError};
 use world_model::Edit;
 
-fn path_from(alloc: Global, word: &Word) -> Result<Path, LineError>
+fn path_from(alloc: Global, word: &[u8]) -> Result<Path, LineError>
     ensures { Gives result (path_from word.now) }
 {
-    match Path::parse(alloc, word.as_slice()) {
+    match Path::parse(alloc, word) {
         Ok(path) => Ok(path),
         Err(PathError::NoMemory) => Err(LineError::NoMemory),
         Err(refusal) => Err(LineError::Bad(Cause::BadPath(refusal))),
     }
 }
 
-fn content_from(alloc: Global, word: &Word) -> Result<Bytes, LineError>
+fn content_from(alloc: Global, word: &[u8]) -> Result<Bytes, LineError>
     ensures { Gives result (content_from word.now) }
 {
-    if word.as_slice().len() > 1_048_576 {
+    if word.len() > 1_048_576 {
         return Err(LineError::Bad(Cause::TooLarge));
     }
-    let bytes = Vec::from_slice(alloc, word.as_slice())?;
+    let bytes = Vec::from_slice(alloc, word)?;
     match Bytes::from_vec(alloc, bytes) {
         Ok(content) => Ok(content),
         Err(_) => Err(LineError::NoMemory),
     }
+}
+
+fn file_from(alloc: Global, word: &[u8], bytes: &[u8]) -> Result<(Path, Bytes), LineError>
+    ensures { Gives result (file_from word.now bytes.now) }
+{
+    let path = path_from(alloc, word)?;
+    let content = content_from(alloc, bytes)?;
+    Ok((path, content))
 }
 
 fn no_more(args: &[Word]) -> Result<(), LineError>
@@ -49,22 +57,48 @@ fn one_path(alloc: Global, args: &[Word]) -> Result<Path, LineError>
     ensures { Gives result (one_path args.now) }
 {
     match args {
-        [word] => path_from(alloc, word),
+        [word] => path_from(alloc, word.as_slice()),
         _ => Err(LineError::Bad(Cause::WrongCount)),
     }
 }
 
-fn path_and_content(alloc: Global, args: &[Word]) -> Result<(Path, Bytes), LineError>
-    ensures { Gives result (path_and_content args.now) }
+fn two_paths(alloc: Global, args: &[Word]) -> Result<(Path, Path), LineError>
+    ensures { Gives result (two_paths args.now) }
 {
     match args {
-        [word, bytes] => {
-            let path = path_from(alloc, word)?;
-            let content = content_from(alloc, bytes)?;
-            Ok((path, content))
+        [word, other] => {
+            let from = path_from(alloc, word.as_slice())?;
+            let to = path_from(alloc, other.as_slice())?;
+            Ok((from, to))
         }
         _ => Err(LineError::Bad(Cause::WrongCount)),
     }
+}
+
+/// A path, and the contents of a file, which is empty where they are not given.
+fn one_file(alloc: Global, args: &[Word]) -> Result<(Path, Bytes), LineError>
+    ensures { Gives result (one_file args.now) }
+{
+    match args {
+        [word] => file_from(alloc, word.as_slice(), b"".as_slice()),
+        [word, bytes] => file_from(alloc, word.as_slice(), bytes.as_slice()),
+        _ => Err(LineError::Bad(Cause::WrongCount)),
+    }
+}
+
+/// The opening line of a word after `set` and the words after it.
+#[tactic(auto, unfolding(crate::specs::Forms::opening_of))]
+pub(crate) fn opening_of(alloc: Global, word: &[u8], args: &[Word]) -> Result<Opening, LineError>
+    ensures { Gives result (opening_of word.now args.now) }
+{
+    if word == b"dir".as_slice() {
+        return Ok(Opening::Dir(one_path(alloc, args)?));
+    }
+    if word == b"file".as_slice() {
+        let (path, content) = one_file(alloc, args)?;
+        return Ok(Opening::File(path, content));
+    }
+    Err(LineError::Bad(Cause::UnknownWord))
 }
 
 /// The command of a word and the words after it.
@@ -73,15 +107,60 @@ pub(crate) fn command_of(alloc: Global, word: &[u8], args: &[Word]) -> Result<Co
     ensures { Gives result (command_of word.now args.now) }
 {
     if word == b"write".as_slice() {
-        let (path, content) = path_and_content(alloc, args)?;
+        let (path, content) = one_file(alloc, args)?;
         return Ok(Command::Edit(Edit::Write(path, content)));
+    }
+    if word == b"mkdir".as_slice() {
+        return Ok(Command::Edit(Edit::Mkdir(one_path(alloc, args)?)));
+    }
+    if word == b"remove".as_slice() {
+        return Ok(Command::Edit(Edit::Remove(one_path(alloc, args)?)));
+    }
+    if word == b"move".as_slice() {
+        let (from, to) = two_paths(alloc, args)?;
+        return Ok(Command::Edit(Edit::Move(from, to)));
+    }
+    path_command_of(alloc, word, args)
+}
+
+/// The command where it is no edit: one on a path, or a word alone.
+#[tactic(auto, unfolding(crate::specs::Forms::path_command_of))]
+fn path_command_of(alloc: Global, word: &[u8], args: &[Word]) -> Result<Command, LineError>
+    ensures { Gives result (path_command_of word.now args.now) }
+{
+    if word == b"event".as_slice() {
+        return Ok(Command::Event(one_path(alloc, args)?));
+    }
+    if word == b"begin".as_slice() {
+        return Ok(Command::Begin(one_path(alloc, args)?));
+    }
+    if word == b"scan".as_slice() {
+        return Ok(Command::Scan(one_path(alloc, args)?));
+    }
+    if word == b"find".as_slice() {
+        return Ok(Command::Find(one_path(alloc, args)?));
+    }
+    if word == b"kind".as_slice() {
+        return Ok(Command::KindOf(one_path(alloc, args)?));
+    }
+    if word == b"version".as_slice() {
+        return Ok(Command::VersionOf(one_path(alloc, args)?));
+    }
+    plain_command_of(word, args)
+}
+
+/// The command where it is a word alone.
+#[tactic(auto, unfolding(crate::specs::Forms::plain_command_of))]
+fn plain_command_of(word: &[u8], args: &[Word]) -> Result<Command, LineError>
+    ensures { Gives result (plain_command_of word.now args.now) }
+{
+    if word == b"deliver".as_slice() {
+        no_more(args)?;
+        return Ok(Command::Deliver);
     }
     if word == b"settle".as_slice() {
         no_more(args)?;
         return Ok(Command::Settle);
-    }
-    if word == b"begin".as_slice() {
-        return Ok(Command::Begin(one_path(alloc, args)?));
     }
     if word == b"read".as_slice() {
         no_more(args)?;
@@ -90,9 +169,6 @@ pub(crate) fn command_of(alloc: Global, word: &[u8], args: &[Word]) -> Result<Co
     if word == b"publish".as_slice() {
         no_more(args)?;
         return Ok(Command::Publish);
-    }
-    if word == b"find".as_slice() {
-        return Ok(Command::Find(one_path(alloc, args)?));
     }
     Err(LineError::Bad(Cause::UnknownWord))
 }

@@ -11,7 +11,7 @@ mod words;
 
 pub use cause::{BadLine, Cause, ScriptError};
 pub use reader::read_script;
-pub use script::{Command, Line, Lines, Script, TextKind};
+pub use script::{Command, Line, Lines, Opening, Openings, Script, TextKind};
 
 #[cfg(test)]
 mod tests;

@@ -6,13 +6,13 @@ ghost use Rattle.script_reader.specs.declared.cause.BadLine.{BadLine};
 ghost use Rattle.script_reader.specs.Gives.{Gives};
 ghost use Rattle.script_reader.specs.Numbers.{number_of};
 ghost use Rattle.script_reader.specs.Reading.{is_in, Adds, Reads, caller_from, with_setting, with_command, with_words, after_line, script_of};
-ghost use Rattle.script_reader.specs.Grammar.{IsTextOf, FirstBad, BeginBelowRoot};
+ghost use Rattle.script_reader.specs.Grammar.{IsTextOf, FirstBad};
 ghost use Rattle.script_reader.specs.Results.{IfBad, IsScriptOrNoMemory, IsBadOrNoMemory};
 
 use crate::cause::{BadLine, Cause, LineError, ScriptError};
-use crate::forms::command_of;
+use crate::forms::{command_of, opening_of};
 use crate::numbers::number_of;
-use crate::script::{Command, Line, Lines, Script, TextKind};
+use crate::script::{Command, Line, Lines, Openings, Script, TextKind};
 use crate::words::{Word, cut, is_note, words_of};
 use std::alloc::Global;
 
@@ -25,25 +25,24 @@ fn caller_of(word: &Word) -> Result<u64, LineError>
     }
 }
 
-/// Whether a text of this kind may have the command.
-fn is_in(kind: TextKind, command: &Command) -> bool
-    ensures { result ≡ is_in kind command.now }
+/// Whether a text of this kind may have the command: a replay may have every command.
+fn is_in(kind: TextKind, _command: &Command) -> bool
+    ensures { result ≡ is_in kind _command.now }
 {
-    match (kind, command) {
-        (TextKind::Replay, Command::Begin(path)) => path.len() > 0,
-        _ => true,
+    match kind {
+        TextKind::Replay => true,
     }
 }
 
-/// What is wrong with the words after `set`, as no setting is known.
-fn setting_fault(words: &[Word]) -> Cause
-    ensures { with_setting words.now ≡ Err result }
+fn add_setting(alloc: Global, script: &mut Script, words: &[Word]) -> Result<(), LineError>
+    ensures { Adds result script.new (with_setting script.old words.now) }
 {
-    if words.is_empty() {
-        Cause::WrongCount
-    } else {
-        Cause::UnknownWord
-    }
+    let Some((word, args)) = words.split_first() else {
+        return Err(LineError::Bad(Cause::WrongCount));
+    };
+    let opening = opening_of(alloc, word.as_slice(), args)?;
+    script.opening.push(opening)?;
+    Ok(())
 }
 
 fn add_command(
@@ -79,7 +78,10 @@ fn add_words(
         return Err(LineError::Bad(Cause::BadCaller));
     };
     if first.as_slice() == b"set".as_slice() {
-        return Err(LineError::Bad(setting_fault(more)));
+        if !script.lines.is_empty() {
+            return Err(LineError::Bad(Cause::LateSetting));
+        }
+        return add_setting(alloc, script, more);
     }
     let caller = caller_of(first)?;
     add_command(alloc, kind, script, caller, more)
@@ -105,6 +107,7 @@ fn read_lines(alloc: Global, kind: TextKind, text: &[u8]) -> Result<Script, Scri
     ensures { Reads result (script_of kind text.now) }
 {
     let mut script = Script {
+        opening: Openings::from_vec(Vec::new(alloc)),
         lines: Lines::from_vec(Vec::new(alloc)),
     };
     let mut number: u64 = 1;
@@ -143,7 +146,6 @@ fn read_lines(alloc: Global, kind: TextKind, text: &[u8]) -> Result<Script, Scri
 pub fn read_script(alloc: Global, text: &[u8]) -> Result<Script, ScriptError>
     // What is read is the script of the text, and what is told is its first bad line.
     ensures found { IfOk result (λ s. IsTextOf TextKind.Replay text.now s) }
-    ensures begun { IfOk result (λ s. BeginBelowRoot s.lines) }
     ensures bad { IfErr result (λ e. IfBad e (FirstBad TextKind.Replay text.now)) }
 
     // The text of a script is read, and a bad line is told, unless memory runs out.

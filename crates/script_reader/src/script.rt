@@ -1,7 +1,8 @@
 //! What a script is.
 
-ghost use Rattle.std.specs.Prelude.{◌≡◌, [], ◌∷◌, ◌++◌, OnOk, OnErr};
+ghost use Rattle.std.specs.Prelude.{◌≡◌, [], ◌∷◌, ◌++◌, ◌==◌, length, OnOk, OnErr};
 
+use merkle_hash::Bytes;
 use std::alloc::AllocError;
 use std::marker::Model;
 use vfs_path::Path;
@@ -10,15 +11,31 @@ use world_model::Edit;
 /// What a text is read as, which decides what commands it may have.
 #[derive(Clone, Copy, Debug, PartialEq, Eq)]
 pub enum TextKind {
-    /// Its lines are done one after the other. A scan begins below the root.
+    /// Its lines are done one after the other, and it may have every command.
     Replay,
+}
+
+/// What stands in the tree before the first command. No event tells of it.
+#[derive(Debug, Drop)]
+pub enum Opening {
+    /// `set dir PATH`: a directory.
+    Dir(Path),
+    /// `set file PATH` or `set file PATH BYTES`: a file, of at most 1,048,576 bytes; empty where
+    /// no bytes are given.
+    File(Path, Bytes),
 }
 
 /// What a caller does.
 #[derive(Debug, Drop)]
 pub enum Command {
-    /// An edit of the tree: `write PATH BYTES`, with at least one byte and at most 1,048,576.
+    /// An edit of the tree: `write PATH` or `write PATH BYTES`, with at most 1,048,576 bytes and
+    /// none where none are given; `mkdir PATH`, `remove PATH`, and `move PATH PATH`, from the first
+    /// path to the second.
     Edit(Edit),
+    /// `event PATH`: an event is told that no edit made.
+    Event(Path),
+    /// `deliver`: the next of what is pending is delivered.
+    Deliver,
     /// `settle`: all that is pending is delivered.
     Settle,
     /// `begin PATH`: the caller's scan of the path begins.
@@ -27,8 +44,14 @@ pub enum Command {
     Read,
     /// `publish`: the caller's scan ends, and what it saw is stored where it may be.
     Publish,
+    /// `scan PATH`: a whole scan of the path, from its begin to its publication.
+    Scan(Path),
     /// `find PATH`: what is retained of the path.
     Find(Path),
+    /// `kind PATH`: of what kind the path is, as far as is retained.
+    KindOf(Path),
+    /// `version PATH`: the path's version.
+    VersionOf(Path),
 }
 
 /// A command line.
@@ -38,6 +61,46 @@ pub struct Line {
     pub caller: u64,
     /// What it does.
     pub command: Command,
+}
+
+/// A list of opening lines.
+#[derive(Debug, Drop)]
+pub struct Openings {
+    items: Vec<Opening>,
+}
+
+impl Model for Openings {
+    ghost use Rattle.std.specs.Prelude.{List};
+    ghost use Rattle.script_reader.specs.declared.script.Opening.{Opening};
+
+    ghost Value = { List Opening };
+
+    ghost view = { λ s. s.items.items };
+}
+
+impl Openings {
+    /// The opening lines of the vector; takes no memory.
+    pub fn from_vec(items: Vec<Opening>) -> Openings
+        ensures { result ≡ items.items }
+    {
+        Openings { items }
+    }
+
+    /// The opening lines.
+    pub fn as_slice(&self) -> &[Opening]
+        ensures { result.now ≡ self.now }
+    {
+        self.items.as_slice()
+    }
+
+    /// Puts an opening line last.
+    pub(crate) fn push(&mut self, opening: Opening) -> Result<(), AllocError>
+        ensures ok { OnOk result (self.new ≡ self.old ++ opening ∷ []) }
+        ensures err { OnErr result (self.new ≡ self.old) }
+    {
+        self.items.push(opening)?;
+        Ok(())
+    }
 }
 
 /// A list of command lines.
@@ -70,6 +133,13 @@ impl Lines {
         self.items.as_slice()
     }
 
+    /// Whether there is no line.
+    pub(crate) fn is_empty(&self) -> bool
+        ensures { result ≡ (length self.now == 0) }
+    {
+        self.items.is_empty()
+    }
+
     /// Puts a line last.
     pub(crate) fn push(&mut self, line: Line) -> Result<(), AllocError>
         ensures ok { OnOk result (self.new ≡ self.old ++ line ∷ []) }
@@ -83,6 +153,8 @@ impl Lines {
 /// A script.
 #[derive(Debug, Drop)]
 pub struct Script {
+    /// The opening lines, in order. In the text they stand before the first command line.
+    pub opening: Openings,
     /// The command lines, in order.
     pub lines: Lines,
 }

@@ -1,29 +1,23 @@
 -- The part at a path, by the first pair at or above it.
-use Rattle.std.proofs.Common.{◌≡◌, ◌≤◌, Bool, true, List, [], ◌∷◌, length, drop, map, Option, Some, None, refl, sym, ap, ◌∙◌, subst, arith}
-use Rattle.std.proofs.lemmas.Bool.{and_parts, true≢false}
+use Rattle.std.proofs.Common.{◌≡◌, ◌≤◌, Bool, List, [], ◌∷◌, length, drop, map, Option, Some, None, refl, sym, ap, ◌∙◌, subst, arith}
 use Rattle.std.proofs.lemmas.List.{length-map}
 use Rattle.std.specs.List.{list_any}
 use Rattle.vfs_model.specs.declared.Case.{Case}
-use Rattle.vfs_model.specs.Paths.{Path, place, folded_name, is_same_name, is_at_or_above}
+use Rattle.vfs_model.specs.Paths.{Path, place, folded_name, is_at_or_above}
 use Rattle.vfs_model.specs.Snapshot.{Snapshot, sub}
 use Rattle.vfs_model.specs.Retained.{part_of}
 use Rattle.vfs_laws.proofs.Splits.{split}
 use Rattle.vfs_laws.proofs.NameLemmas.{some-is}
 use Rattle.snapshot_tree.specs.Meaning.{meaning_of}
-use Rattle.snapshot_hierarchy.specs.declared.flat.Pair.{Pair as PairValue}
-use Rattle.snapshot_hierarchy.specs.Flat.{pairs_of, first_over}
+use Rattle.vfs_laws.proofs.AboveLemmas.{above-short}
+use Rattle.snapshot_tree.specs.declared.pieces.Pair.{Pair as PairValue}
+use Rattle.snapshot_tree.specs.Pieces.{pairs_of}
+use Rattle.snapshot_hierarchy.specs.Flat.{first_over}
 
 -- a test of what a list is mapped to
 pub list_any-map : {X Y : Type 0} (p : Y → Bool) (f : X → Y) (xs : List X) → list_any p (map f xs) ≡ list_any (λ x. p (f x)) xs
 list_any-map p f [] = refl
 list_any-map p f (x ∷ xs) = split (p (f x)) (λ s. rw s refl) (λ s. rw s (list_any-map p f xs))
-
-above-short : (p x : Path) → is_at_or_above p x ≡ true → length p ≤ length x
-above-short [] x h = omega arith
-above-short (n ∷ p) [] h = absurd (true≢false (sym h))
-above-short (n ∷ p) (m ∷ x) h =
-    let below : length p ≤ length x = above-short p x (and_parts (is_same_name n m) (is_at_or_above p x) h).1 in
-    omega arith
 
 -- the pair that is found is no deeper than the path
 pub first-short : (case : Case) (path : Path) (pairs : List PairValue) (pair : PairValue) → Some pair ≡ first_over case path pairs → length pair.path ≤ length path

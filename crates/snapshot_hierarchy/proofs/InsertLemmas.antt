@@ -1,6 +1,6 @@
 -- Putting a pair, or a directory, in its place.
 use Rattle.std.proofs.Common.{◌≡◌, ℕ, suc, zero, ◌+◌, ◌-◌, ◌<◌, ◌≤◌, true, false, ◌&&◌, not, List, [], ◌∷◌, ◌++◌, length, drop, take, get_or, refl, sym, ap, ◌∙◌, add-one, drop-cons, arith, nat_cmp}
-use Rattle.std.proofs.lemmas.List.{map-append, take-map, length-map, take_all, take-append-drop}
+use Rattle.std.proofs.lemmas.List.{map-append, take-map, length-map, take_all, take_more, take-append-drop}
 use Rattle.std.specs.Ordering.{is_eq, is_lt}
 use Rattle.std.specs.Cmp.Lexicographic.{slice_cmp, texts_ties}
 use Rattle.std.specs.declared.cmp.Ordering.TheVariants.{Equal}
@@ -10,7 +10,7 @@ use Rattle.vfs_model.specs.Retained.{place_order, precedes, insert_dir, insert_d
 use Rattle.vfs_laws.proofs.Splits.{split}
 use Rattle.vfs_laws.proofs.NameLemmas.{split_order}
 use Rattle.vfs_laws.proofs.OrderLemmas.{place_order-equal}
-use Rattle.snapshot_hierarchy.specs.Flat.{places_of}
+use Rattle.snapshot_tree.specs.Pieces.{places_of}
 
 -- ---- a directory that is there already
 
@@ -67,3 +67,21 @@ ancestors-next case path dir (suc n) dirs more some within is added =
     let fewer : suc n - 1 ≡ n = omega arith in
     rw (fewer, added, front, ancestors-more (place case path) n deep, take-map (folded_name case) n path)
     (sym (insert_dirs-push (take n (ancestors (place case path))) (place case (take n path)) dirs))
+
+-- ---- several directories
+
+-- the last of the first goes in before the others
+pub insert_dirs-next : (case : Case) (more : List Path) (i : ℕ) (d : Path) (dirs new : List Path) → 0 < i → i ≤ length more → d ≡ get_or more (i - 1) d → new ≡ insert_dir (place case d) dirs
+    → insert_dirs (places_of case (take (i - 1) more)) new ≡ insert_dirs (places_of case (take i more)) dirs
+insert_dirs-next case more zero d dirs new some within is added = absurd (omega arith)
+insert_dirs-next case more (suc i) d dirs new some within is added =
+    let deep : i < length more = omega arith in
+    let fewer : suc i - 1 ≡ i = omega arith in
+    let here : d ≡ get_or more i d = is ∙ ap (λ n. get_or more n d) fewer in
+    let first : take (suc i) more ≡ take i more ++ d ∷ [] = ap (λ n. take n more) (sym (add-one i)) ∙ take_more more i d deep ∙ ap (λ x. take i more ++ x ∷ []) (sym here) in
+    rw (fewer, added, first, map-append) (sym (insert_dirs-push (places_of case (take i more)) (place case d) dirs))
+
+-- all of one list go in behind those of the other
+pub insert_dirs-append : (first second dirs : List Path) → insert_dirs (first ++ second) dirs ≡ insert_dirs first (insert_dirs second dirs)
+insert_dirs-append [] second dirs = refl
+insert_dirs-append (d ∷ first) second dirs = ap (insert_dir d) (insert_dirs-append first second dirs)

@@ -1,50 +1,33 @@
--- What an invalidation leaves of pairs whose snapshots have no children.
-use Rattle.std.proofs.Common.{◌≡◌, ℕ, ◌+◌, ◌<◌, Bool, true, false, ◌&&◌, ◌||◌, not, List, [], ◌∷◌, ◌++◌, length, drop, take, get_or, filter, cond, refl, sym, ap, append_assoc, append-nil}
+-- What an invalidation leaves, and what a store makes of it.
+use Rattle.std.proofs.Common.{◌≡◌, ◌∙◌, ℕ, ◌+◌, ◌<◌, Bool, true, false, ◌&&◌, not, List, [], ◌∷◌, ◌++◌, length, drop, take, get_or, filter, cond, refl, sym, ap, append_assoc, append-nil}
 use Rattle.std.proofs.lemmas.Bool.{or_parts, true≢false}
-use Rattle.std.proofs.lemmas.List.{map-append, take_more}
+use Rattle.std.proofs.lemmas.List.{map-append, take_more, drop_all}
 use Rattle.std.proofs.lemmas.List.Elements.{filter-append}
 use Rattle.vfs_model.specs.declared.Case.{Case}
-use Rattle.vfs_model.specs.Paths.{Path, place, is_at_or_above, is_related}
+use Rattle.vfs_model.specs.Paths.{Path, place, is_at_or_above}
 use Rattle.vfs_model.specs.Snapshot.{Snapshot}
-use Rattle.vfs_model.specs.Retained.{Pair, Retained, pieces, dirs_from, pairs_left, dirs_left, all_pairs_left, all_dirs_left, is_covered, after_invalidation, after_store}
+use Rattle.vfs_model.specs.Retained.{Pair, Retained, insert_dirs, dirs_from, pairs_left, dirs_left, all_pairs_left, all_dirs_left, is_covered, after_invalidation, after_store}
 use Rattle.vfs_laws.proofs.Splits.{split}
-use Rattle.snapshot_tree.specs.declared.snapshot.Snapshot.{Snapshot as SnapshotValue}
-use Rattle.snapshot_tree.specs.declared.snapshot.Snapshot.TheVariants as value
-use Rattle.snapshot_tree.specs.Meaning.{meaning_of}
-use Rattle.snapshot_hierarchy.specs.declared.flat.Pair.{Pair as PairValue}
-use Rattle.snapshot_hierarchy.specs.Flat.{pair_of, pairs_of, places_of, with_pair}
+use Rattle.snapshot_tree.specs.declared.pieces.Pair.{Pair as PairValue}
+use Rattle.snapshot_tree.specs.Pieces.{pair_of, pairs_of, places_of}
+use Rattle.vfs_laws.proofs.AboveLemmas.{above-short}
+use Rattle.snapshot_hierarchy.specs.Flat.{opened_dirs, with_pair}
+use Rattle.snapshot_hierarchy.proofs.InsertLemmas.{insert_dirs-append}
 
 -- ---- one pair
 
-pieces-childless : (case : Case) (p : Path) (s : SnapshotValue) (x : Path) → pieces case p (meaning_of s) x ≡ []
-pieces-childless case p s [] = refl
-pieces-childless case p value.Missing (n ∷ x) = refl
-pieces-childless case p (value.File digest) (n ∷ x) = refl
+dirs_left-apart : (case : Case) (e : Path) (r : Pair) → is_at_or_above r.path e ≡ false → dirs_left case e r ≡ []
+dirs_left-apart case e r t = rw t refl
 
-dirs_from-childless : (case : Case) (p : Path) (s : SnapshotValue) (x : Path) → dirs_from case p (meaning_of s) x ≡ []
-dirs_from-childless case p s [] = refl
-dirs_from-childless case p value.Missing (n ∷ x) = refl
-dirs_from-childless case p (value.File digest) (n ∷ x) = refl
+dirs_left-above : (case : Case) (e : Path) (r : Pair) → is_at_or_above r.path e ≡ true → dirs_left case e r ≡ dirs_from case r.path r.snapshot (drop (length r.path) e)
+dirs_left-above case e r t = rw t refl
 
-right_of_or : (a b : Bool) → not (a || b) ≡ false → a ≡ false → b ≡ true
-right_of_or true b h e = absurd (true≢false e)
-right_of_or false true h e = refl
-right_of_or false false h e = absurd (true≢false h)
-
--- nothing is left of a pair that has to do with the place
-pub pairs_left-related : (case : Case) (e : Path) (pair : PairValue) → not (is_related e (place case pair.path)) ≡ false → pairs_left case e (pair_of case pair) ≡ []
-pairs_left-related case e pair h =
-    split (is_at_or_above e (place case pair.path))
-    (λ s. rw s refl)
-    (λ s.
-    let t = right_of_or _ _ h s in
-    rw (s, t) (pieces-childless case (place case pair.path) pair.snapshot (drop (length (place case pair.path)) e)))
-
-dirs_left-childless : (case : Case) (e : Path) (pair : PairValue) → dirs_left case e (pair_of case pair) ≡ []
-dirs_left-childless case e pair =
-    split (is_at_or_above (place case pair.path) e)
-    (λ s. rw s (dirs_from-childless case (place case pair.path) pair.snapshot (drop (length (place case pair.path)) e)))
-    (λ s. rw s refl)
+-- no directory becomes known by a pair at or below the place
+pub dirs_left-below : (case : Case) (e : Path) (r : Pair) → is_at_or_above e r.path ≡ true → dirs_left case e r ≡ []
+dirs_left-below case e r s =
+    split (is_at_or_above r.path e)
+    (λ t. dirs_left-above case e r t ∙ ap (dirs_from case r.path r.snapshot) (drop_all (length r.path) e (above-short e r.path s)))
+    (λ t. dirs_left-apart case e r t)
 
 -- ---- one pair, and one directory, more of a list
 
@@ -56,6 +39,14 @@ pub all_pairs_left-next : (case : Case) (e : Path) (pairs : List PairValue) (i :
     → all_pairs_left case e (pairs_of case (take (i + 1) pairs)) ≡ all_pairs_left case e (pairs_of case (take i pairs)) ++ pairs_left case e (pair_of case q)
 all_pairs_left-next case e pairs i q h is = rw (take_more pairs i q h, ← is, map-append) (all_pairs_left-push case e (pairs_of case (take i pairs)) (pair_of case q))
 
+opened_dirs-push : (case : Case) (e : Path) (rs : List Pair) (r : Pair) → opened_dirs case e (rs ++ r ∷ []) ≡ opened_dirs case e rs ++ dirs_left case e r
+opened_dirs-push case e [] r = append-nil (dirs_left case e r)
+opened_dirs-push case e (q ∷ rs) r = rw (opened_dirs-push case e rs r) (sym (append_assoc (dirs_left case e q) (opened_dirs case e rs) (dirs_left case e r)))
+
+pub opened_dirs-next : (case : Case) (e : Path) (pairs : List PairValue) (i : ℕ) (q : PairValue) → i < length pairs → q ≡ get_or pairs i q
+    → opened_dirs case e (pairs_of case (take (i + 1) pairs)) ≡ opened_dirs case e (pairs_of case (take i pairs)) ++ dirs_left case e (pair_of case q)
+opened_dirs-next case e pairs i q h is = rw (take_more pairs i q h, ← is, map-append) (opened_dirs-push case e (pairs_of case (take i pairs)) (pair_of case q))
+
 -- a directory is left behind those before it, where it passes the test
 pub filter-next : (t : Path → Bool) (case : Case) (dirs : List Path) (i : ℕ) (d : Path) → i < length dirs → d ≡ get_or dirs i d
     → filter t (places_of case (take (i + 1) dirs)) ≡ filter t (places_of case (take i dirs)) ++ cond (t (place case d)) (place case d ∷ []) []
@@ -63,10 +54,14 @@ filter-next t case dirs i d h is = rw (take_more dirs i d h, ← is, map-append)
 
 -- ---- all of them
 
--- no directory comes from such pairs
-pub all_dirs_left-childless : (case : Case) (e : Path) (pairs : List PairValue) (dirs : List Path) → all_dirs_left case e (pairs_of case pairs) dirs ≡ filter (λ d. not (is_at_or_above e d)) dirs
-all_dirs_left-childless case e [] dirs = refl
-all_dirs_left-childless case e (q ∷ pairs) dirs = rw (dirs_left-childless case e q) (all_dirs_left-childless case e pairs dirs)
+-- the directories left are those outside, with those that the pairs strictly above leave
+pub all_dirs_left-is : (case : Case) (e : Path) (rs : List Pair) (dirs : List Path) → all_dirs_left case e rs dirs ≡ insert_dirs (opened_dirs case e rs) (filter (λ d. not (is_at_or_above e d)) dirs)
+all_dirs_left-is case e [] dirs = refl
+all_dirs_left-is case e (r ∷ rs) dirs =
+    ap (insert_dirs (dirs_left case e r)) (all_dirs_left-is case e rs dirs)
+    ∙ sym (insert_dirs-append (dirs_left case e r) (opened_dirs case e rs) (filter (λ d. not (is_at_or_above e d)) dirs))
+
+-- ---- a store
 
 below-too : (a b : Bool) → (a && not b) ≡ false → b ≡ false → a ≡ false
 below-too true b h e = absurd (true≢false (rw e at h))
@@ -83,10 +78,21 @@ all_pairs_left-uncovered case e (r ∷ rs) h =
     let t = below-too (is_at_or_above r.path e) (is_at_or_above e r.path) free.0 s in
     rw (s, t) (ap (λ l. r ∷ l) (all_pairs_left-uncovered case e rs free.1)))
 
+-- and no directory becomes known
+opened_dirs-uncovered : (case : Case) (e : Path) (rs : List Pair) → is_covered rs e ≡ false → opened_dirs case e rs ≡ []
+opened_dirs-uncovered case e [] h = refl
+opened_dirs-uncovered case e (r ∷ rs) h =
+    let free = or_parts _ _ h in
+    let rest = opened_dirs-uncovered case e rs free.1 in
+    split (is_at_or_above e r.path)
+    (λ s. rw (dirs_left-below case e r s) rest)
+    (λ s. rw (dirs_left-apart case e r (below-too (is_at_or_above r.path e) (is_at_or_above e r.path) free.0 s)) rest)
+
 -- a store is an invalidation, after which the pair comes
-pub store-is : (case : Case) (p : Path) (s : Snapshot) (pairs : List PairValue) (dirs : List Path) → is_covered (pairs_of case pairs) p ≡ false
-    → with_pair p s (after_invalidation case p (record { pairs = pairs_of case pairs; dirs = dirs })) ≡ after_store p s (record { pairs = pairs_of case pairs; dirs = dirs })
-store-is case p s pairs dirs free = rw (free, all_pairs_left-uncovered case p (pairs_of case pairs) free, all_dirs_left-childless case p pairs dirs) refl
+pub store-is : (case : Case) (p : Path) (s : Snapshot) (rs : List Pair) (dirs : List Path) → is_covered rs p ≡ false
+    → with_pair p s (after_invalidation case p (record { pairs = rs; dirs = dirs })) ≡ after_store p s (record { pairs = rs; dirs = dirs })
+store-is case p s rs dirs free =
+    rw (free, all_pairs_left-uncovered case p rs free, all_dirs_left-is case p rs dirs, opened_dirs-uncovered case p rs free) refl
 
 -- where a pair stands strictly above, nothing changes
 pub store-covered : (p : Path) (s : Snapshot) (retained : Retained) → is_covered retained.pairs p ≡ true → retained ≡ after_store p s retained

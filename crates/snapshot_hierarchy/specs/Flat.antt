@@ -1,27 +1,15 @@
 -- What the two lists of the flat form stand for.
-use Rattle.std.specs.Prelude.{List, map, refl, Option}
+use Rattle.std.specs.Prelude.{List, [], ◌∷◌, ◌++◌, refl, Option}
 use Rattle.std.specs.List.{find}
 use Rattle.std.specs.Coded.{Coded, code_by, coded×}
 use Rattle.vfs_model.specs.declared.Case.{Case}
 use Rattle.vfs_model.specs.Code.{case_code, retained_code}
 use Rattle.vfs_model.specs.Paths.{Path, place, is_at_or_above}
-use Rattle.vfs_model.specs.Retained.{Pair, Retained, insert_pair, insert_dirs, known_above}
+use Rattle.vfs_model.specs.Retained.{Pair, Retained, dirs_left, insert_pair, insert_dirs, known_above}
 use Rattle.vfs_model.specs.Snapshot.{Snapshot}
-use Rattle.snapshot_tree.specs.Meaning.{meaning_of}
-use Rattle.snapshot_hierarchy.specs.declared.flat.Pair.{Pair as PairValue}
+use Rattle.snapshot_tree.specs.declared.pieces.Pair.{Pair as PairValue}
+use Rattle.snapshot_tree.specs.Pieces.{pairs_of, places_of}
 use Rattle.snapshot_hierarchy.specs.Held.{Held}
-
--- the place of the path, and the snapshot
-abbrev pub pair_of : Case → PairValue → Pair
-pair_of case pair = record { path = place case pair.path; snapshot = meaning_of pair.snapshot }
-
--- each pair with its place
-abbrev pub pairs_of : Case → List PairValue → List Pair
-pairs_of case pairs = map (pair_of case) pairs
-
--- the place of each path
-abbrev pub places_of : Case → List Path → List Path
-places_of case paths = map (place case) paths
 
 -- the lists, by the places of their paths
 abbrev pub held_of : Case → List PairValue → List Path → Held
@@ -40,3 +28,8 @@ with_pair p s retained = record {
   pairs = insert_pair (record { path = p; snapshot = s }) retained.pairs;
   dirs = insert_dirs (known_above p s) retained.dirs;
 }
+
+-- the directories that the pairs strictly above the place leave, one pair after another
+abbrev pub opened_dirs : Case → Path → List Pair → List Path
+opened_dirs case e [] = []
+opened_dirs case e (r ∷ pairs) = dirs_left case e r ++ opened_dirs case e pairs

@@ -2,35 +2,20 @@
 
 ghost use Rattle.std.specs.Prelude.{◌≡◌, ◌++◌, ◌&&◌, not, filter, IfOk, OnOk};
 ghost use Rattle.std.specs.Option.{option_map};
-ghost use Rattle.vfs_model.specs.Paths.{place, is_at_or_above, is_related, is_same_place};
+ghost use Rattle.vfs_model.specs.Paths.{place, is_at_or_above, is_same_place};
 ghost use Rattle.vfs_model.specs.Retained as spec;
 ghost use Rattle.snapshot_tree.specs.Meaning.{meaning_of};
+ghost use Rattle.snapshot_tree.specs.Pieces.{pair_of, pairs_of, places_of};
 ghost use Rattle.snapshot_hierarchy.specs.Held.{nothing};
-ghost use Rattle.snapshot_hierarchy.specs.Flat.{pair_of, pairs_of, places_of, first_over, with_pair};
+ghost use Rattle.snapshot_hierarchy.specs.Flat.{first_over, opened_dirs, with_pair};
 
 use crate::retain::{Retain, Stored};
 use case_order::{Case, NoMemory, Share};
-use snapshot_tree::{Glance, Kind, Snapshot};
+use snapshot_tree::{Glance, Kind, Pair, Snapshot};
 use std::alloc::Global;
 use std::cmp::Ordering;
 use std::marker::Model;
 use vfs_path::Path;
-
-/// A path and the snapshot that is retained there.
-#[derive(Drop)]
-struct Pair {
-    path: Path,
-    snapshot: Snapshot,
-}
-
-impl Share for Pair {
-    fn share(&self) -> Result<Pair, NoMemory> {
-        Ok(Pair {
-            path: self.path.share()?,
-            snapshot: self.snapshot.share()?,
-        })
-    }
-}
 
 /// The pairs and the known directories in two lists, each in its order: every call takes time that
 /// grows with them, and a change makes them anew.
@@ -71,8 +56,9 @@ impl FlatRetain {
     fn without(&self, path: &Path) -> Result<FlatRetain, NoMemory>
         ensures { IfOk result (λ left. left ≡ record { case = self.now.case; retained = spec.after_invalidation self.now.case (place self.now.case path.now) self.now.retained }) }
     {
-        let pairs = pairs_left(*self.pairs.allocator(), self.case, &self.pairs, path)?;
-        let dirs = dirs_left(*self.dirs.allocator(), self.case, &self.dirs, path)?;
+        let (pairs, opened) = pairs_left(*self.pairs.allocator(), self.case, &self.pairs, path)?;
+        let mut dirs = dirs_outside(*self.dirs.allocator(), self.case, &self.dirs, path)?;
+        add_dirs(self.case, &mut dirs, &opened)?;
         Ok(FlatRetain {
             case: self.case,
             pairs,
@@ -180,37 +166,68 @@ fn is_strictly_above(case: Case, a: &Path, b: &Path) -> bool
     a.is_at_or_above(case, b) && !b.is_at_or_above(case, a)
 }
 
-/// What an invalidation of the path leaves of the pairs.
-fn pairs_left(alloc: Global, case: Case, pairs: &[Pair], path: &Path) -> Result<Vec<Pair>, NoMemory>
-    ensures { IfOk result (λ left. pairs_of case left.items ≡ spec.all_pairs_left case (place case path.now) (pairs_of case pairs.now)) }
+/// What an invalidation of the path leaves of the pairs, and the directories that become known by
+/// it.
+fn pairs_left(
+    alloc: Global,
+    case: Case,
+    pairs: &[Pair],
+    path: &Path,
+) -> Result<(Vec<Pair>, Vec<Path>), NoMemory>
+    ensures pairs { IfOk result (λ left. pairs_of case left.0.items ≡ spec.all_pairs_left case (place case path.now) (pairs_of case pairs.now)) }
+    ensures opened { IfOk result (λ left. places_of case left.1.items ≡ opened_dirs case (place case path.now) (pairs_of case pairs.now)) }
 {
     let mut left = Vec::new(alloc);
+    let mut opened = Vec::new(alloc);
     for pair in pairs {
-        add_left(case, &mut left, pair, path)?;
+        add_left(case, &mut left, &mut opened, pair, path)?;
     }
-    Ok(left)
+    Ok((left, opened))
 }
 
-/// Appends what an invalidation of the path leaves of one pair: nothing, where the path is above it
-/// or below, since a file and what is missing have no children beside the way.
-fn add_left(case: Case, left: &mut Vec<Pair>, pair: &Pair, path: &Path) -> Result<(), NoMemory>
-    ensures { OnOk result (pairs_of case left.new.items ≡ pairs_of case left.old.items ++ spec.pairs_left case (place case path.now) (pair_of case pair.now)) }
+/// Appends what an invalidation of the path leaves of one pair: nothing at or below the path, the
+/// pieces of one strictly above it with the directories on the way, and else the pair itself.
+fn add_left(
+    case: Case,
+    left: &mut Vec<Pair>,
+    opened: &mut Vec<Path>,
+    pair: &Pair,
+    path: &Path,
+) -> Result<(), NoMemory>
+    ensures pairs { OnOk result (pairs_of case left.new.items ≡ pairs_of case left.old.items ++ spec.pairs_left case (place case path.now) (pair_of case pair.now)) }
+    ensures opened { OnOk result (places_of case opened.new.items ≡ places_of case opened.old.items ++ spec.dirs_left case (place case path.now) (pair_of case pair.now)) }
 {
-    if stays(case, pair, path) {
+    if path.is_at_or_above(case, &pair.path) {
+        return Ok(());
+    }
+    if !pair.path.is_at_or_above(case, path) {
         left.push(pair.share()?)?;
+        return Ok(());
+    }
+    let pieces = pair
+        .snapshot
+        .pieces(*left.allocator(), case, &pair.path, path)?;
+    add_shared(left, pieces.pairs.as_slice())?;
+    add_shared(opened, pieces.dirs.as_slice())
+}
+
+/// Appends equal values.
+fn add_shared<T: Share + Drop>(items: &mut Vec<T>, more: &[T]) -> Result<(), NoMemory>
+    ensures { OnOk result (items.new.items ≡ items.old.items ++ more.now) }
+{
+    for item in more {
+        items.push(item.share()?)?;
     }
     Ok(())
 }
 
-/// Whether the pair has nothing to do with the path.
-fn stays(case: Case, pair: &Pair, path: &Path) -> bool
-    ensures { result ≡ not (is_related (place case path.now) (place case pair.now.path)) }
-{
-    !path.related(case, &pair.path)
-}
-
 /// The directories that are not at or below the path.
-fn dirs_left(alloc: Global, case: Case, dirs: &[Path], path: &Path) -> Result<Vec<Path>, NoMemory>
+fn dirs_outside(
+    alloc: Global,
+    case: Case,
+    dirs: &[Path],
+    path: &Path,
+) -> Result<Vec<Path>, NoMemory>
     ensures { IfOk result (λ left. places_of case left.items ≡ filter (λ d. not (is_at_or_above (place case path.now) d)) (places_of case dirs.now)) }
 {
     let mut left = Vec::new(alloc);
@@ -254,7 +271,7 @@ fn add_known(
 {
     match snapshot {
         Snapshot::Missing => Ok(()),
-        Snapshot::File(_) => add_ancestors(case, dirs, path),
+        Snapshot::File(_) | Snapshot::Dir(_) => add_ancestors(case, dirs, path),
     }
 }
 
@@ -265,6 +282,16 @@ fn add_ancestors(case: Case, dirs: &mut Vec<Path>, path: &Path) -> Result<(), No
     for n in (0..path.len()).rev() {
         let dir = path.front(*dirs.allocator(), n)?;
         add_dir(case, dirs, &dir)?;
+    }
+    Ok(())
+}
+
+/// Puts each of the directories in its place, the last first.
+fn add_dirs(case: Case, dirs: &mut Vec<Path>, more: &[Path]) -> Result<(), NoMemory>
+    ensures { OnOk result (places_of case dirs.new.items ≡ spec.insert_dirs (places_of case more.now) (places_of case dirs.old.items)) }
+{
+    for i in (0..more.len()).rev() {
+        add_dir(case, dirs, &more[i])?;
     }
     Ok(())
 }

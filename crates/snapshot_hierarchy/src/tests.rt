@@ -1,13 +1,17 @@
-//! What is retained of files after stores and invalidations.
+//! What is retained of files and directories after stores and invalidations.
+
+ghost use Rattle.std.specs.Prelude.{◌≢◌};
+ghost use Rattle.vfs_model.specs.Snapshot.{Missing};
+ghost use Rattle.snapshot_tree.specs.Meaning.{meaning_of};
 
 use crate::{FlatRetain, Retain, Stored};
-use case_order::Case;
+use case_order::{Case, order};
 use merkle_hash::{Digest, file_digest};
-use snapshot_tree::{Kind, Snapshot};
+use snapshot_tree::{DirBuilder, Kind, Snapshot};
 use std::alloc::Global;
 use std::process::Abort;
 use std::test::Fail;
-use vfs_path::Path;
+use vfs_path::{Name, Path};
 
 /// What is asked of a holder, and what must come of it.
 #[derive(Clone, Copy)]
@@ -20,6 +24,23 @@ enum Ask {
     Find(Option<Option<Digest>>),
 }
 
+fn file(text: &str) -> Snapshot
+    ensures { meaning_of result ≢ Missing }
+{
+    Snapshot::File(file_digest(text.as_bytes()))
+}
+
+/// The directory with a file of each name, which holds its name.
+fn directory(rt: &impl Abort, alloc: Global, first: &str, second: &str) -> Result<Snapshot, Fail> {
+    let name = Name::from_bytes(alloc, first.as_bytes())?;
+    let last = Name::from_bytes(alloc, second.as_bytes())?;
+    assert!(rt; order(Case::Insensitive, name.as_bytes(), last.as_bytes()).is_lt());
+    let mut builder = DirBuilder::new(alloc, Case::Insensitive);
+    builder.add(name, file(first))?;
+    builder.add(last, file(second))?;
+    Ok(builder.finish()?)
+}
+
 fn assert_asked<R: Retain>(
     rt: &impl Abort,
     alloc: Global,
@@ -30,8 +51,7 @@ fn assert_asked<R: Retain>(
     let path = Path::parse(alloc, text.as_bytes())?;
     match ask {
         Ask::Store(want) => {
-            let file = Snapshot::File(file_digest(text.as_bytes()));
-            assert_eq!(rt; retained.store(&path, file)?, want, "{text}");
+            assert_eq!(rt; retained.store(&path, file(text))?, want, "{text}");
         }
         Ask::StoreMissing(want) => {
             assert_eq!(rt; retained.store(&path, Snapshot::Missing)?, want, "{text}");
@@ -83,5 +103,32 @@ fn files_are_kept_until_they_are_invalidated(rt: HostRuntime) -> Result<(), Fail
         assert_asked(&rt, alloc, &mut retained, text, ask)?;
     }
     assert_eq!(rt; retained.case(), Case::Insensitive);
+    Ok(())
+}
+
+#[test]
+fn directory_that_breaks_leaves_its_pieces(rt: HostRuntime) -> Result<(), Fail> {
+    let alloc = rt.alloc();
+    let mut retained = FlatRetain::new(alloc, Case::Insensitive);
+    let path = Path::parse(alloc, b"/d")?;
+    let stored = retained.store(&path, directory(&rt, alloc, "a", "b")?)?;
+    assert_eq!(rt; stored, Stored::Kept);
+    for (text, ask) in [
+        ("/D/A", Ask::Find(digest_of("a"))),
+        ("/d/c", Ask::Find(Some(None))),
+        ("/x", Ask::Find(None)),
+        ("/d/A", Ask::Invalidate),
+        ("/d/a", Ask::Find(None)),
+        ("/d/b", Ask::Find(digest_of("b"))),
+        ("/d", Ask::Find(None)),
+        ("/d", Ask::Kind(Some(Kind::Dir))),
+        ("/", Ask::Kind(Some(Kind::Dir))),
+        ("/d/b", Ask::Invalidate),
+        ("/d", Ask::Kind(Some(Kind::Dir))),
+        ("/d", Ask::Invalidate),
+        ("/d", Ask::Kind(None)),
+    ] {
+        assert_asked(&rt, alloc, &mut retained, text, ask)?;
+    }
     Ok(())
 }

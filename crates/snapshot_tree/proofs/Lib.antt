@@ -1,1 +1,4 @@
+pub mod BuilderLemmas
+pub mod ListingLemmas
+pub mod PiecesLemmas
 pub mod SubLemmas

@@ -24,7 +24,8 @@ told-due s (CallEdit edit) = refl
 told-due s (CallRead c) = due-for s (scan_of s c)
 told-due s _ = tt
 
-look-look : (case : Case) (world : World) (q : Path) (depth : ℕ) → length q ≡ depth → IsWorld case world → IsLook case depth (look case world q)
+-- a look at a world lists names in order, few of them, and none too deep
+pub look-look : (case : Case) (world : World) (q : Path) (depth : ℕ) → length q ≡ depth → IsWorld case world → IsLook case depth (look case world q)
 look-look case world q depth e h = by (at case world q)
   where
     empty : IsListed case []

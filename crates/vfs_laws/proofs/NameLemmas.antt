@@ -63,7 +63,7 @@ pub each-weaker : {X : Type 0} (P Q : X → Type 0) → ((x : X) → P x → Q x
 each-weaker P Q f [] h = tt
 each-weaker P Q f (x ∷ xs) h = (f x h.0, each-weaker P Q f xs h.1)
 
-order-trans : (case : Case) (a b c : Name) → name_order case a b ≡ Less → name_order case b c ≡ Less → name_order case a c ≡ Less
+pub order-trans : (case : Case) (a b c : Name) → name_order case a b ≡ Less → name_order case b c ≡ Less → name_order case a c ≡ Less
 order-trans case a b c = nat_list_cmp_total.trans (folded_name case a) (folded_name case b) (folded_name case c)
 
 order-congr : (case : Case) (a b c : Name) → name_order case a b ≡ Equal → name_order case b c ≡ Less → name_order case a c ≡ Less
@@ -106,7 +106,7 @@ pub spelling-none : (e : Option Entry) → spelling_of e ≡ None → e ≡ None
 spelling-none None h = refl
 spelling-none (Some e) h = cc
 
-last_name-append : (x : Path) (n : Name) → last_name (x ++ n ∷ []) ≡ n
+pub last_name-append : (x : Path) (n : Name) → last_name (x ++ n ∷ []) ≡ n
 last_name-append [] n = refl
 last_name-append (a ∷ []) n = refl
 last_name-append (a ∷ b ∷ x) n = last_name-append (b ∷ x) n

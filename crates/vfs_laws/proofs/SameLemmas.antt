@@ -1,6 +1,6 @@
 -- Two lists of entries that are one world answer the same, and stay one world after an edit.
 use Rattle.std.proofs.Common.{◌≡◌, ◌≢◌, ◌⊎◌, ℕ, ◌+◌, ◌-◌, Bool, true, false, ◌&&◌, ◌||◌, not, List, [], ◌∷◌, ◌++◌, map, length, drop, find, refl, sym, ap, ◌∙◌, subst, Option, Some, None, option_map, append_assoc, append-nil, inl, inr, nat_le, nat_lt, cond, if◌then◌else◌}
-use Rattle.std.proofs.lemmas.Bool.{both_ways, true≢false, or_from, or_parts, or_left, or_right, false_from_ne_true}
+use Rattle.std.proofs.lemmas.Bool.{both_ways, true≢false, and_parts, and_from, or_from, or_parts, or_left, or_right, false_from_ne_true}
 use Rattle.std.specs.List.{list_any}
 use Rattle.vfs_model.specs.declared.Case.{Case}
 use Rattle.vfs_model.specs.Paths.{Name, Path, place, is_at_or_above, is_same_place, last_name}
@@ -40,7 +40,8 @@ same-look case v w x h =
     look-node (at case v x) (at case w x) (names case v x) (h.nodes x)
     ∙ ap (look_of (at case w x)) (same-names case v x w x (same-from case v w x h))
 
-status-node : (a b : Option Entry) → node_of a ≡ node_of b → status_of a ≡ status_of b
+-- what is one node has one status
+pub status-node : (a b : Option Entry) → node_of a ≡ node_of b → status_of a ≡ status_of b
 status-node None None h = refl
 status-node None (Some b) h = cc
 status-node (Some a) None h = cc
@@ -54,37 +55,44 @@ same-full case v w p h = ap (λ ns. nat_le 4096 (length ns)) (same-names case v 
 
 -- ---- too deep
 
-abbrev is_deep : Case → Path → Path → Path → Bool
-is_deep case from to y = is_at_or_above (place case from) y && nat_lt 64 (length to + (length y - length from))
+-- something that would stand too deep after the move
+pub record IsDeepAt (case : Case) (world : World) (from to : Path) : Type 0 where
+  pub spot : Path
+  pub here : at case world spot ≢ None
+  pub above : is_at_or_above (place case from) spot ≡ true
+  pub deep : nat_lt 64 (length to + (length spot - length from)) ≡ true
 
-deep-entry : (case : Case) (from to : Path) (e : Entry) → (is_at_or_above (place case from) (place case e.path) && nat_lt 64 (length to + (length e.path - length from))) ≡ is_deep case from to (place case e.path)
-deep-entry case from to e = ap (λ n. is_at_or_above (place case from) (place case e.path) && nat_lt 64 (length to + (n - length from))) (sym (length-place case e.path))
-
-record IsDeepAt (case : Case) (world : World) (from to : Path) : Type 0 where
-  spot : Path
-  here : at case world spot ≢ None
-  deep : is_deep case from to spot ≡ true
-
-deep-at : (case : Case) (world : World) (from to : Path) → is_too_deep case world from to ≡ true → IsDeepAt case world from to
+-- a world is too deep where something stands too deep
+pub deep-at : (case : Case) (world : World) (from to : Path) → is_too_deep case world from to ≡ true → IsDeepAt case world from to
 deep-at case [] from to h = absurd (true≢false (sym h))
 deep-at case (e ∷ world) from to h =
     split (is_at_or_above (place case from) (place case e.path) && nat_lt 64 (length to + (length e.path - length from)))
-    (λ t. record { spot = place case e.path; here = λ n. absurd (clash (sym (ap (λ b. cond b (Some e) (at case world (place case e.path))) (same_place-refl (place case e.path))) ∙ n)); deep = sym (deep-entry case from to e) ∙ t })
+    (λ t.
+    let parts = and_parts _ _ t in
+    record {
+      spot = place case e.path;
+      here = λ n. absurd (clash (sym (ap (λ b. cond b (Some e) (at case world (place case e.path))) (same_place-refl (place case e.path))) ∙ n));
+      above = parts.0;
+      deep = ap (λ n. nat_lt 64 (length to + (n - length from))) (length-place case e.path) ∙ parts.1;
+    })
     (λ f.
     let m = deep-at case world from to (rw f at h) in
-    record { spot = m.spot; here = λ n. split (is_same_place (place case e.path) m.spot) (λ s. absurd (clash (rw s at n))) (λ s. m.here (rw s at n)); deep = m.deep })
+    record { spot = m.spot; here = λ n. split (is_same_place (place case e.path) m.spot) (λ s. absurd (clash (rw s at n))) (λ s. m.here (rw s at n)); above = m.above; deep = m.deep })
   where
     clash : Some e ≡ None → ⊥
     clash h = cc
 
-at-deep : (case : Case) (world : World) (from to y : Path) → (at case world y ≢ None) → is_deep case from to y ≡ true → is_too_deep case world from to ≡ true
-at-deep case [] from to y here deep = absurd (here refl)
-at-deep case (e ∷ world) from to y here deep =
-    split (is_same_place (place case e.path) y)
-    (λ s. or_left _ _ (deep-entry case from to e ∙ ap (is_deep case from to) (same_place-true (place case e.path) y s) ∙ deep))
-    (λ s. or_right _ _ (at-deep case world from to y (λ n. here (rw s n)) deep))
+pub at-deep : (case : Case) (world : World) (from to : Path) → IsDeepAt case world from to → is_too_deep case world from to ≡ true
+at-deep case [] from to d = absurd (d.here refl)
+at-deep case (e ∷ world) from to d =
+    split (is_same_place (place case e.path) d.spot)
+    (λ s.
+    let same = same_place-true (place case e.path) d.spot s in
+    or_left _ _ (and_from _ _ (ap (is_at_or_above (place case from)) same ∙ d.above) (ap (λ n. nat_lt 64 (length to + (n - length from))) (sym (length-place case e.path) ∙ ap length same) ∙ d.deep)))
+    (λ s. or_right _ _ (at-deep case world from to (record { spot = d.spot; here = λ n. d.here (rw s n); above = d.above; deep = d.deep })))
 
-none-node : (a b : Option Entry) → node_of a ≡ node_of b → a ≡ None → b ≡ None
+-- where one is absent and the nodes are the same, the other is absent
+pub none-node : (a b : Option Entry) → node_of a ≡ node_of b → a ≡ None → b ≡ None
 none-node None None h e = refl
 none-node None (Some b) h e = cc
 none-node (Some a) b h e = cc
@@ -92,7 +100,7 @@ none-node (Some a) b h e = cc
 deep-both : (case : Case) (v w : World) (from to : Path) → IsSame case v w → is_too_deep case v from to ≡ true → is_too_deep case w from to ≡ true
 deep-both case v w from to h t =
     let m = deep-at case v from to t in
-    at-deep case w from to m.spot (λ n. m.here (none-node (at case w m.spot) (at case v m.spot) (sym (h.nodes m.spot)) n)) m.deep
+    at-deep case w from to (record { spot = m.spot; here = λ n. m.here (none-node (at case w m.spot) (at case v m.spot) (sym (h.nodes m.spot)) n); above = m.above; deep = m.deep })
 
 same-sym : (case : Case) (v w : World) → IsSame case v w → IsSame case w v
 same-sym case v w h = record { nodes = λ x. sym (h.nodes x); names = λ x n. sym (h.names x n) }
@@ -247,6 +255,14 @@ written case v w p bytes h y =
     let m' : is_missing (status_there case w p) ≡ false = ap is_missing (sym same) ∙ m in
     rw (m, m') (entry_after_write-alike case v w p bytes h y))
 
+-- nothing is left behind the names of a path
+pub dropped : (k : ℕ) (x : Path) → length x ≡ k → drop k x ≡ []
+dropped k x e = ap (λ m. drop m x) (sym e) ∙ all x
+  where
+    all : (x : Path) → drop (length x) x ≡ []
+    all [] = refl
+    all (n ∷ x) = all x
+
 -- the end of a move takes the name that it is moved to
 end-name : (case : Case) (v w : World) (p q : Path) (a b : Option Entry) → at case v (place case p) ≡ a → at case w (place case p) ≡ b → node_of a ≡ node_of b → spelling_of (option_map (entry_after_move case p q) a) ≡ spelling_of (option_map (entry_after_move case p q) b)
 end-name case v w p q None None is_a is_b n = refl
@@ -254,13 +270,6 @@ end-name case v w p q None (Some b) is_a is_b n = cc
 end-name case v w p q (Some a) None is_a is_b n = cc
 end-name case v w p q (Some a) (Some b) is_a is_b n = ap Some (end v a is_a ∙ sym (end w b is_b))
   where
-    dropped : (k : ℕ) (x : Path) → length x ≡ k → drop k x ≡ []
-    dropped k x e = ap (λ m. drop m x) (sym e) ∙ all x
-      where
-        all : (x : Path) → drop (length x) x ≡ []
-        all [] = refl
-        all (n ∷ x) = all x
-
     end : (u : World) (e : Entry) → at case u (place case p) ≡ Some e → last_name (entry_after_move case p q e).path ≡ last_name q
     end u e is =
         let e_is = found-place case u (place case p) e is in

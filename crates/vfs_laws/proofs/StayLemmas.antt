@@ -11,9 +11,14 @@ use Rattle.vfs_laws.proofs.PathLemmas.{same_name-refl, same_name-true, at_or_abo
 use Rattle.vfs_laws.proofs.NameLemmas.{some-is}
 use Rattle.vfs_laws.proofs.RetainedLemmas.{rest-is}
 
-sub-missing : (case : Case) (x : Path) → sub case Missing x ≡ Missing
+-- below what is missing nothing is there
+pub sub-missing : (case : Case) (x : Path) → sub case Missing x ≡ Missing
 sub-missing case [] = refl
 sub-missing case (n ∷ x) = sub-missing case x
+
+off-and : (a b : Bool) → a ≡ false → (a && b) ≡ false
+off-and true b e = absurd (true≢false e)
+off-and false b e = refl
 
 above-both : (p a b : Path) → is_at_or_above (p ++ a) (p ++ b) ≡ is_at_or_above a b
 above-both [] a b = refl
@@ -74,10 +79,6 @@ pieces_beside-other case p (Child name s more) n inner m z f off there none is =
     let k = folded_name case name in
     let away : is_at_or_above (p ++ k ∷ []) (p ++ m ∷ z) ≡ false = above-both p (k ∷ []) (m ∷ z) ∙ off-and _ _ u in
     rw (t, away) (pieces_beside-other case p more n inner m z f off there none (rw u at is))))
-  where
-    off-and : (a b : Bool) → a ≡ false → (a && b) ≡ false
-    off-and true b e = absurd (true≢false e)
-    off-and false b e = refl
 
 -- what is found in the place of the child n
 pieces_beside-in : (case : Case) (p : Path) (cs : Children) (n : Name) (inner : List Pair) (z : Path) (f : Snapshot) → (f ≢ Missing) → part_of case inner (p ++ n ∷ z) ≡ Some f → sub case (child case cs n) z ≡ f
@@ -89,10 +90,6 @@ pieces_beside-in case p (Child name s more) n inner z f there found is =
     (λ t.
     let away : is_at_or_above (p ++ folded_name case name ∷ []) (p ++ n ∷ z) ≡ false = above-both p (folded_name case name ∷ []) (n ∷ z) ∙ off-and _ _ t in
     rw (t, away) (pieces_beside-in case p more n inner z f there found (rw t at is)))
-  where
-    off-and : (a b : Bool) → a ≡ false → (a && b) ≡ false
-    off-and true b e = absurd (true≢false e)
-    off-and false b e = refl
 
 pieces-at : (case : Case) (p : Path) (s : Snapshot) (y z : Path) (f : Snapshot) → is_related y z ≡ false → (f ≢ Missing) → sub case s z ≡ f → part_of case (pieces case p s y) (p ++ z) ≡ Some f
 pieces-at case p s [] z f off there is = absurd (true≢false off)
@@ -114,10 +111,6 @@ pieces-at case p s (n ∷ y) (m ∷ z) f off there is =
 
     below : (n : Name) (y z : Path) → is_related (n ∷ y) (n ∷ z) ≡ false → is_related y z ≡ false
     below n y z h = rw (same_name-refl n) at h
-
-    off-and : (a b : Bool) → a ≡ false → (a && b) ≡ false
-    off-and true b e = absurd (true≢false e)
-    off-and false b e = refl
 
 -- what is found and not missing stays, where it has nothing to do with the path
 pub after_invalidation-keeps : (case : Case) (e : Path) (rs : List Pair) (x : Path) (f : Snapshot) → is_related e x ≡ false → (f ≢ Missing) → part_of case rs x ≡ Some f → part_of case (all_pairs_left case e rs) x ≡ Some f

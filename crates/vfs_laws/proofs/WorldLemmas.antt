@@ -79,7 +79,7 @@ longer [] n = refl
 longer (a ∷ x) n = rw (same_name-refl a) (longer x n)
 
 -- a place is not at or below itself with a name more
-not_below : (x : Path) (n : Name) → is_at_or_above (x ++ n ∷ []) x ≡ false
+pub not_below : (x : Path) (n : Name) → is_at_or_above (x ++ n ∷ []) x ≡ false
 not_below [] n = refl
 not_below (a ∷ x) n = rw (same_name-refl a) (not_below x n)
 
@@ -176,7 +176,7 @@ length-place case [] = refl
 length-place case (n ∷ p) = ap suc (length-place case p)
 
 -- each entry is found at its place
-each-there : (case : Case) (world : World) → Each (λ (e : Entry). at case world (place case e.path) ≢ None) world
+pub each-there : (case : Case) (world : World) → Each (λ (e : Entry). at case world (place case e.path) ≢ None) world
 each-there case [] = tt
 each-there case (e ∷ world) =
     let P : World → Entry → Type 0 = λ w f. at case w (place case f.path) ≢ None in (

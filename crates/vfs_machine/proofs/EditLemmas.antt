@@ -2,7 +2,7 @@
 use Rattle.std.proofs.Common.{◌≡◌, ℕ, Bool, List, [], ◌∷◌, ◌++◌, Option, Some, None, refl, sym, ap, ◌∙◌, subst, if◌then◌else◌}
 use Rattle.vfs_model.specs.declared.Case.{Case}
 use Rattle.vfs_model.specs.Paths.{Path}
-use Rattle.vfs_model.specs.World.{World, Entry, IsClosed, IsWorld, IsSameBelow, at as at_place, node_of, status_of, status_of_node}
+use Rattle.vfs_model.specs.World.{World, IsClosed, IsWorld, IsSameBelow, at as at_place}
 use Rattle.vfs_model.specs.Edit.{Edit, Refusal, refusal, apply, events}
 use Rattle.vfs_model.specs.Pending.{Pending, put_all}
 use Rattle.vfs_model.specs.State.{State, Reply, Done, Overflow, Refused, EditAnswer, Does, CallEdit, all_fit, after_edit, edit_by, edit_answer, edit_answer_or}
@@ -12,33 +12,22 @@ use Rattle.world_model.specs.Told.{IsApplied}
 use Rattle.vfs_machine.specs.declared.answers.Edited.{Edited}
 use Rattle.vfs_machine.specs.declared.answers.Edited.TheVariants as edited
 use Rattle.vfs_machine.specs.Steps.{IsOutcome, IsStepOf, IsToldStepOf, edit_given, edit_answers, edited_reply}
-use Rattle.vfs_laws.proofs.SameLemmas.{same-refusal, same-apply}
+use Rattle.vfs_laws.proofs.SameLemmas.{none-node, status-node, same-refusal, same-apply}
 
 -- ---- one world in two lists
 
 same-trans : (case : Case) (u v w : World) → IsSameBelow case u [] v [] → IsSameBelow case v [] w [] → IsSameBelow case u [] w []
 same-trans case u v w h k = record { nodes = λ x. h.nodes x ∙ k.nodes x; names = λ x n. h.names x n ∙ k.names x n }
 
-status-node : (a b : Option Entry) → node_of a ≡ node_of b → status_of a ≡ status_of b
-status-node None None e = refl
-status-node None (Some b) e = cc
-status-node (Some a) None e = cc
-status-node (Some a) (Some b) e = let same : a.node ≡ b.node = cc in ap status_of_node same
-
-none-node : (a b : Option Entry) → node_of a ≡ node_of b → b ≡ None → a ≡ None
-none-node None b e n = refl
-none-node (Some a) None e n = cc
-none-node (Some a) (Some b) e n = cc
-
 -- a list that is one world with a closed one is closed
 same-closed : (case : Case) (v w : World) → IsSameBelow case v [] w [] → IsClosed case w → IsClosed case v
 same-closed case v w h closed x n other =
-    none-node (at_place case v (x ++ n ∷ [])) (at_place case w (x ++ n ∷ [])) (h.nodes (x ++ n ∷ []))
+    none-node (at_place case w (x ++ n ∷ [])) (at_place case v (x ++ n ∷ [])) (sym (h.nodes (x ++ n ∷ [])))
     (closed x n (λ dir. other (status-node (at_place case v x) (at_place case w x) (h.nodes x) ∙ dir)))
 
 -- ---- the world after an edit
 
-applied-world : (case : Case) (s : World) (edit : Edit) (old new : Option World) → IsApplied case edit old new
+pub applied-world : (case : Case) (s : World) (edit : Edit) (old new : Option World) → IsApplied case edit old new
     → ((w : World) → old ≡ Some w → IsWorld case w) → ((w : World) → old ≡ Some w → refusal case w edit ≡ None) → ((w : World) → old ≡ Some w → IsSameBelow case s [] w [])
     → (v : World) → new ≡ Some v → IsSameBelow case (apply case s edit) [] v []
 applied-world case s edit None None done whole allowed same v e = cc

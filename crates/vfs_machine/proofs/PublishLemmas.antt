@@ -12,10 +12,10 @@ use Rattle.vfs_model.specs.Stands.{StandsFor, RunningScan, Parts, Stands, IsScan
 use Rattle.vfs_laws.proofs.WalkLemmas.{locations_left-next_left, locations_left-count_left}
 use Rattle.publish_core.specs.declared.vfs.Published.{Published}
 use Rattle.publish_core.specs.declared.vfs.Published.TheVariants as answer
-use Rattle.publish_core.specs.Publication.{IsAnswer, retained_after}
+use Rattle.publish_core.specs.Publication.{retained_after}
 use Rattle.publish_core.proofs.SinceLemmas.{since-stale, since-fresh}
-use Rattle.vfs_machine.specs.Scans.{running_at, AreDigests, AreContentsOf}
-use Rattle.vfs_machine.specs.Publish.{IsPublished, published_reply, scans_after}
+use Rattle.vfs_machine.specs.Scans.{running_at, AreDigests, AreContentsOf, IsDone}
+use Rattle.vfs_machine.specs.Publish.{IsAnswered, IsPublished, published_reply, scans_after}
 use Rattle.vfs_machine.specs.Steps.{IsOutcome}
 use Rattle.vfs_machine.proofs.SlotLemmas.{slot-of, slots-set}
 
@@ -84,7 +84,7 @@ covered-is : {V : Type 0} (at : V → Path → ℕ) (count : V → ℕ) (m : Par
 covered-is at count m s r t slot st = λ i. is_covered (st.retained i).pairs (where_is at count m s r t slot st i)
 
 publish-by : {V : Type 0} (at : V → Path → ℕ) (count : V → ℕ) (m : Parts V) (s : State) (c : ℕ) (r : RunningScan) (t : Scan) (ret : Retained) (result : Published) → IsScanOf m.case s.past r t
-    → IsAnswer (at m.versions (place m.case r.path)) r.seen (is_covered m.retained.pairs (place m.case r.path)) result
+    → IsAnswered (at m.versions (place m.case r.path)) r.seen (is_covered m.retained.pairs (place m.case r.path)) result
     → ret ≡ retained_after (place m.case r.path) (snapshot_made r.partial) m.retained result
     → Stands at count m s
     → IsOutcome (published_reply result) s (publish_done s c t) (λ u. Stands at count (record m { retained = ret; scans = scans_after m.scans c result }) u)
@@ -167,3 +167,8 @@ publish-whole {V} at count m s c case ret versions xs result reply e1 e2 e3 e4 d
 pub digests-of_contents : (r : Option RunningScan) (digests : List (List ℕ)) → option_map (λ (q : RunningScan). count_left q.partial) r ≡ Some 0 → AreDigests r digests → AreContentsOf r digests
 digests-of_contents None digests done h = tt
 digests-of_contents (Some r) digests done h = let zero_left : count_left r.partial ≡ 0 = cc in h (none-left r.partial zero_left)
+
+-- and nothing is left where the count is 0
+pub done-of_count : (r : Option RunningScan) → option_map (λ (q : RunningScan). count_left q.partial) r ≡ Some 0 → IsDone r
+done-of_count None done = tt
+done-of_count (Some r) done = let zero_left : count_left r.partial ≡ 0 = cc in none-left r.partial zero_left

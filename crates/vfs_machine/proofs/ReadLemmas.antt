@@ -1,5 +1,5 @@
 -- A machine that stands for a state still does after a read of a scan.
-use Rattle.std.proofs.Common.{◌≡◌, ℕ, List, [], ◌++◌, Option, Some, None, IfSome, slice_set, refl, sym, ap, ◌∙◌, subst, append-nil}
+use Rattle.std.proofs.Common.{◌≡◌, ℕ, ◌+◌, List, ◌++◌, length, length-append, true, is_some, Option, Some, None, IfSome, option_map, slice_set, refl, sym, ap, ◌∙◌, subst}
 use Rattle.vfs_model.specs.declared.Case.{Case}
 use Rattle.vfs_model.specs.declared.Kind.{Kind}
 use Rattle.vfs_model.specs.Paths.{Path, place}
@@ -7,10 +7,59 @@ use Rattle.vfs_model.specs.World.{World}
 use Rattle.vfs_model.specs.Scanning.{Scan, Look, look, next_left, count_left, after_look}
 use Rattle.vfs_model.specs.State.{State, NoScan, AllRead, Saw, Fault, scan_of, kind_of_look, read_or, read_next, look_due, look_due_at}
 use Rattle.vfs_model.specs.Stands.{RunningScan, Parts, Stands, IsScanOf, IsSlotOf}
-use Rattle.vfs_machine.specs.declared.scan.Next.TheVariants as to
-use Rattle.vfs_machine.specs.Scans.{running_at, IsNext, IsLocation}
+use Rattle.vfs_machine.specs.declared.slots.Next.{Next}
+use Rattle.vfs_machine.specs.declared.slots.Next.TheVariants as to
+use Rattle.vfs_machine.specs.Cased.{CasedScan, running_of, scans_in, cased_at, IsUnder}
+use Rattle.vfs_machine.proofs.CasedLemmas.{running-is}
+use Rattle.vfs_model.specs.Sound.{IsLook}
+use Rattle.vfs_machine.specs.Scans.{running_at, location_of, IsNext, IsLookOfOpen}
+use Rattle.vfs_laws.proofs.EditLemmas.{place-append}
 use Rattle.vfs_laws.proofs.SameLemmas.{same-look}
 use Rattle.vfs_machine.proofs.SlotLemmas.{slot-of, with_slot-stands}
+
+-- ---- the next location
+
+location-none : (r : RunningScan) → location_of r ≡ None → next_left r.partial ≡ None
+location-none r h = by (next_left r.partial) h
+  where
+    by : (o : Option Path) → option_map (λ y. r.path ++ y) o ≡ None → o ≡ None
+    by None h = refl
+    by (Some y) h = cc
+
+-- the names of the location below the scan's path
+record IsLocation (r : RunningScan) (p : Path) : Type 0 where
+  names : Path
+  next : next_left r.partial ≡ Some names
+  path_is : p ≡ r.path ++ names
+
+location-some : (r : RunningScan) (p : Path) → location_of r ≡ Some p → IsLocation r p
+location-some r p h = by (next_left r.partial) refl h
+  where
+    by : (o : Option Path) → next_left r.partial ≡ o → option_map (λ y. r.path ++ y) o ≡ Some p → IsLocation r p
+    by None e h = cc
+    by (Some y) e h = let is : p ≡ r.path ++ y = cc in record { names = y; next = e; path_is = is }
+
+-- the scan is in progress where it has a next location
+pub location-open : (o : Option CasedScan) (p : Path) → IsNext (running_of o) (to.Location p) → is_some o ≡ true
+location-open None p h = absurd h
+location-open (Some s) p h = refl
+
+-- a look there is one at the next location of the scan
+pub location-look : (case : Case) (o : Option CasedScan) (p : Path) (l : Look) → IsUnder case o → IsNext (running_of o) (to.Location p) → IsLook case (length p) l → IsLookOfOpen o l
+location-look case None p l is h k = tt
+location-look case (Some s) p l is h k =
+    let at_it = location-some s.scan p h in
+    record {
+      left = ap is_some at_it.next;
+      look = λ y e.
+          let same : at_it.names ≡ y = cc (at_it.next) in
+          let far : length p ≡ length s.scan.path + length y = ap length at_it.path_is ∙ length-append s.scan.path at_it.names ∙ ap (λ z. length s.scan.path + length z) same in
+          coe 0 1 (i. IsLook (sym is i) (far i) l) k;
+    }
+
+-- the scan alone goes on there
+pub next-alone : (xs : List (Option CasedScan)) (c : ℕ) (n : Next) → IsNext (running_of (cased_at xs c)) n → IsNext (running_at (scans_in xs) c) n
+next-alone xs c n h = subst (λ (o : Option RunningScan). IsNext o n) (sym (running-is xs c)) h
 
 -- ---- nothing is looked at
 
@@ -30,7 +79,7 @@ done-by : (case : Case) (past : List Path) (l : Option Look) (s : State) (c : �
 done-by case past l s c P None t slot h p = absurd h
 done-by case past l s c P (Some r) None slot h p = absurd slot
 done-by case past l s c P (Some r) (Some t) slot h p =
-    subst (λ (q : Option Path). (AllRead ≡ (read_next s c t q l).reply) × P (read_next s c t q l).state) (sym (ap next_left slot.partial ∙ h)) (refl, p)
+    subst (λ (q : Option Path). (AllRead ≡ (read_next s c t q l).reply) × P (read_next s c t q l).state) (sym (ap next_left slot.partial ∙ location-none r h)) (refl, p)
 
 -- nothing is left
 pub read-done : {V : Type 0} (at : V → Path → ℕ) (count : V → ℕ) (m : Parts V) (l : Option Look) (s : State) (c : ℕ) → IsNext (running_at m.scans c) to.Done → Stands at count m s
@@ -56,7 +105,7 @@ failed-by : (case : Case) (past : List Path) (p : Path) (s : State) (c : ℕ) (P
 failed-by case past p s c P None t slot h q = absurd h
 failed-by case past p s c P (Some r) None slot h q = absurd slot
 failed-by case past p s c P (Some r) (Some t) slot h q =
-    subst (λ (y : Option Path). (Fault ≡ (read_next s c t y None).reply) × P (read_next s c t y None).state) (sym (ap next_left slot.partial ∙ h.1)) (refl, q)
+    subst (λ (y : Option Path). (Fault ≡ (read_next s c t y None).reply) × P (read_next s c t y None).state) (sym (ap next_left slot.partial ∙ (location-some r p h).next)) (refl, q)
 
 -- the look failed
 pub read-failed : {V : Type 0} (at : V → Path → ℕ) (count : V → ℕ) (m : Parts V) (f : ℕ) (k : Option World) (p : Path) (s : State) (c : ℕ) → k ≡ m.content → IsNext (running_at m.scans c) (to.Location p) → Stands at count m s
@@ -68,11 +117,11 @@ read-failed at count m f k p s c e h st =
 abbrev pub seen_at : Look → RunningScan → Option RunningScan
 seen_at l r = Some (record r { partial = after_look l r.partial })
 
-saw-at : {V : Type 0} (at : V → Path → ℕ) (count : V → ℕ) (m : Parts V) (l : Look) (p : Path) (n : ℕ) (s : State) (c : ℕ) (r : RunningScan) (t : Scan) → IsScanOf m.case s.past r t → IsLocation r p → n ≡ count_left (after_look l r.partial)
+saw-at : {V : Type 0} (at : V → Path → ℕ) (count : V → ℕ) (m : Parts V) (l : Look) (p : Path) (n : ℕ) (s : State) (c : ℕ) (r : RunningScan) (t : Scan) → IsScanOf m.case s.past r t → (h : IsLocation r p) → n ≡ count_left (after_look l r.partial)
     → Stands at count m s
-    → (Saw p (kind_of_look l) n ≡ (read_next s c t (Some []) (Some l)).reply) × Stands at count (record m { scans = slice_set m.scans c (seen_at l r) }) (read_next s c t (Some []) (Some l)).state
+    → (Saw p (kind_of_look l) n ≡ (read_next s c t (Some h.names) (Some l)).reply) × Stands at count (record m { scans = slice_set m.scans c (seen_at l r) }) (read_next s c t (Some h.names) (Some l)).state
 saw-at at count m l p n s c r t slot h len st = (
-  (λ i. Saw ((h.0 ∙ sym slot.path ∙ sym (append-nil t.path)) i) (kind_of_look l) ((len ∙ ap (λ k. count_left (after_look l k)) (sym slot.partial)) i)),
+  (λ i. Saw ((h.path_is ∙ ap (λ q. q ++ h.names) (sym slot.path)) i) (kind_of_look l) ((len ∙ ap (λ k. count_left (after_look l k)) (sym slot.partial)) i)),
   with_slot-stands at count m s c (seen_at l r) (Some (record { path = t.path; begun_at = t.begun_at; partial = after_look l t.partial })) st
       (record { path = slot.path; partial = ap (after_look l) slot.partial; begun_at = slot.begun_at; seen = slot.seen }),
 )
@@ -84,8 +133,8 @@ saw-by at count m xs l p n s c None t slot h set len st = absurd h
 saw-by at count m xs l p n s c (Some r) None slot h set len st = absurd slot
 saw-by at count m xs l p n s c (Some r) (Some t) slot h set len st =
     subst (λ (ys : List (Option RunningScan)). (Saw p (kind_of_look l) n ≡ (read_next s c t (next_left t.partial) (Some l)).reply) × Stands at count (record m { scans = ys }) (read_next s c t (next_left t.partial) (Some l)).state) (sym set)
-    (subst (λ (y : Option Path). (Saw p (kind_of_look l) n ≡ (read_next s c t y (Some l)).reply) × Stands at count (record m { scans = slice_set m.scans c (seen_at l r) }) (read_next s c t y (Some l)).state) (sym (ap next_left slot.partial ∙ h.1))
-    (saw-at at count m l p n s c r t slot h len st))
+    (subst (λ (y : Option Path). (Saw p (kind_of_look l) n ≡ (read_next s c t y (Some l)).reply) × Stands at count (record m { scans = slice_set m.scans c (seen_at l r) }) (read_next s c t y (Some l)).state) (sym (ap next_left slot.partial ∙ (location-some r p h).next))
+    (saw-at at count m l p n s c r t slot (location-some r p h) len st))
 
 -- the look saw what is at the location
 pub read-saw : {V : Type 0} (at : V → Path → ℕ) (count : V → ℕ) (m : Parts V) (f : ℕ) (w : Option World) (xs : List (Option RunningScan)) (l : Look) (p : Path) (k : Kind) (n : ℕ) (s : State) (c : ℕ) → w ≡ m.content → k ≡ kind_of_look l
@@ -103,8 +152,9 @@ due-by : (case : Case) (past : List Path) (p : Path) (s : State) (w : World) (r 
 due-by case past p s w None t slot h e same = absurd h
 due-by case past p s w (Some r) None slot h e same = absurd slot
 due-by case past p s w (Some r) (Some t) slot h e same =
-    let where_is : place s.case t.path ++ place s.case [] ≡ place case p = append-nil (place s.case t.path) ∙ (λ i. place (e i) ((slot.path ∙ sym h.0) i)) in
-    ap (look_due_at s t) (ap next_left slot.partial ∙ h.1)
+    let next = location-some r p h in
+    let where_is : place s.case t.path ++ place s.case next.names ≡ place case p = sym (place-append s.case t.path next.names) ∙ (λ i. place (e i) ((ap (λ q. q ++ next.names) slot.path ∙ sym next.path_is) i)) in
+    ap (look_due_at s t) (ap next_left slot.partial ∙ next.next)
     ∙ ap Some ((λ i. look (e i) s.world (where_is i)) ∙ same (place case p))
 
 -- the look that is due is that of the world that is told

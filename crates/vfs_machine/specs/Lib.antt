@@ -1,4 +1,4 @@
-pub mod Read
+pub mod Cased
 pub mod Scans
 pub mod Whole
 pub mod Steps

@@ -1,11 +1,13 @@
 -- What a machine keeps, by its parts.
 use Rattle.std.specs.Prelude.{◌≡◌, ℕ, List, [], Option, None, false, replicate, length}
+use Rattle.std.specs.List.{AllByRecursion as Each}
 use Rattle.vfs_model.specs.declared.Case.{Case}
 use Rattle.vfs_model.specs.Pending.{Pending}
 use Rattle.vfs_model.specs.Stands.{RunningScan, Parts}
 use Rattle.world_model.specs.Told.{TreeTold}
 use Rattle.snapshot_hierarchy.specs.Held.{Held}
 use Rattle.publish_core.specs.Holds.{Holds}
+use Rattle.vfs_machine.specs.Cased.{CasedScan, IsUnder}
 
 -- the parts of a machine; no fingerprint is kept
 abbrev pub parts_of : {V : Type 0} → TreeTold → Pending → Holds V → List (Option RunningScan) → Parts V
@@ -20,10 +22,11 @@ parts_of told pending holds scans = record {
   kept = [];
 }
 
--- the tree and what is retained have one case, and there are sixteen scans
-pub record IsWhole (tree case : Case) (scans : List (Option RunningScan)) : Type 0 where
+-- the tree, what is retained and the walks of the scans have one case, and there are sixteen scans
+pub record IsWhole (tree case : Case) (scans : List (Option CasedScan)) : Type 0 where
   pub one_case : tree ≡ case
   pub sixteen : length scans ≡ 16
+  pub walks : Each (IsUnder case) scans
 
 -- what a machine keeps at first: sixteen closed scans, and nothing pending
 abbrev pub opening_parts : {V : Type 0} → TreeTold → ℕ → Held → V → Parts V

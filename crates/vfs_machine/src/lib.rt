@@ -5,6 +5,7 @@ mod answers;
 mod digests;
 mod machine;
 mod scan;
+mod slots;
 #[cfg(test)]
 mod tests;
 

@@ -1,6 +1,6 @@
 //! The machine.
 
-ghost use Rattle.std.specs.Prelude.{◌≡◌, ◌<◌, ◌≤◌, ◌^◌, ◌+◌, Some, None, [], ◌∷◌, true, false, IfOk, IfErr, OnErr, IsTrue, ◌↔◌, ℕ, length, is_some, option_map, replicate};
+ghost use Rattle.std.specs.Prelude.{◌≡◌, ◌<◌, ◌≤◌, ◌^◌, ◌+◌, Some, None, [], ◌∷◌, true, false, IfOk, IfErr, IfSome, OnErr, IsTrue, ◌↔◌, ℕ, length, is_some, option_map, replicate};
 ghost use Rattle.std.specs.Option.{option_copied};
 ghost use Rattle.vfs_model.specs.Paths as paths;
 ghost use Rattle.vfs_model.specs.Pending as pending;
@@ -8,7 +8,7 @@ ghost use Rattle.vfs_model.specs.Scanning as scanning;
 ghost use Rattle.vfs_model.specs.State as state;
 ghost use Rattle.vfs_model.specs.Sound.{IsSettled};
 ghost use Rattle.world_model.specs.Front.{IsFirst};
-ghost use Rattle.vfs_model.specs.World.{World};
+ghost use Rattle.vfs_model.specs.World.{World, IsWorld};
 ghost use Rattle.vfs_model.specs.History.{opening};
 ghost use Rattle.snapshot_hierarchy.specs.Held.{nothing};
 ghost use Rattle.vfs_model.specs.Faults.{Rose};
@@ -16,15 +16,17 @@ ghost use Rattle.vfs_model.specs.Stands.{Stands, StandsFor};
 ghost use Rattle.snapshot_tree.specs.Meaning.{meaning_of, glance_of};
 ghost use Rattle.world_model.specs.Meaning.{edit_of, events_of, look_seen};
 ghost use Rattle.vfs_machine.specs.declared.answers.Readed.TheVariants as readed;
-ghost use Rattle.vfs_machine.specs.Scans.{running_at, AreDigests, AreContentsOf};
+ghost use Rattle.vfs_machine.specs.Cased.{cased_at, running_of, scans_in};
+ghost use Rattle.vfs_machine.specs.Scans.{running_at, AreDigests, AreContentsOf, IsDone, IsShapedRunning};
 ghost use Rattle.vfs_machine.specs.Deliveries.{Counts, IsDue};
 ghost use Rattle.vfs_machine.specs.Whole.{opening_parts, told_of};
 ghost use Rattle.vfs_machine.specs.Steps.{IsStepOf, IsToldStepOf, IsRead, edit_answers, edited_reply, fit_reply, delivered_reply, began_reply, readed_reply, answer_reply};
 ghost use Rattle.vfs_machine.specs.Publish.{IsPublished, published_reply, scans_after};
 
 use crate::answers::{Answer, Began, Delivered, Edited, Readed};
-use crate::scan::{Next, Scan, contents_of, is_open, left_of, next_of, see_in, set_scan};
-use case_order::{NoMemory, Share};
+use crate::scan::Scan;
+use crate::slots::{Next, contents_of, is_open, left_of, next_of, see_in, set_scan};
+use case_order::{Case, NoMemory, Share};
 use merkle_hash::{Bytes, Digest};
 use publish_core::{Published, Vfs};
 use snapshot_hierarchy::Retain;
@@ -53,28 +55,54 @@ pub struct Machine<T: Tree, R: Retain, V: Versions> {
 impl<T: Tree, R: Retain, V: Versions> Model for Machine<T, R, V> {
     ghost use Rattle.vfs_model.specs.Stands.{Parts};
     ghost use Rattle.vfs_model.specs.Code.{parts_code};
+    ghost use Rattle.vfs_machine.specs.Cased.{scans_in};
     ghost use Rattle.vfs_machine.specs.Whole.{parts_of, IsWhole};
 
     ghost Value = { Parts V };
 
     ghost coded = { parts_code V.code };
 
-    ghost view = { λ m. parts_of (T.told m.tree) m.intake m.vfs m.scans.items };
+    ghost view = { λ m. parts_of (T.told m.tree) m.intake m.vfs (scans_in m.scans.items) };
 
     ghost invariant = { λ m. IsWhole (T.told m.tree).case m.vfs.case m.scans.items };
 }
 
-/// Queues the events of an edit; false where one did not fit.
+/// Queues an event; false where it did not fit.
+fn put(intake: &mut Intake, path: Path) -> bool
+    ensures fit { result ≡ pending.has_room intake.old }
+    ensures queue { intake.new ≡ pending.put path intake.old }
+{
+    intake.put(path) == Fit::Fits
+}
+
+/// Queues the events of an edit, in order; false where one did not fit.
 fn put_all(intake: &mut Intake, events: Events) -> bool
     ensures fit { result ≡ state.all_fit (events_of events) intake.old }
     ensures queue { intake.new ≡ pending.put_all (events_of events) intake.old }
+    ensures waiting { pending.deliveries_due intake.new ≤ pending.deliveries_due intake.old + 2 }
 {
     match events {
-        Events::One(path) => intake.put(path) == Fit::Fits,
+        Events::One(path) => put(intake, path),
+        Events::Two(from, to) => {
+            let first = put(intake, from);
+            let second = put(intake, to);
+            first && second
+        }
     }
 }
 
 impl<T: Tree, R: Retain, V: Versions> Machine<T, R, V> {
+    /// The case of the tree and of all that is retained; takes no memory.
+    ///
+    /// Where the tree tells its content this is a world under the case, and there are sixteen scans.
+    pub fn case(&self) -> Case
+        ensures case { result ≡ self.now.case }
+        ensures world { (w : World) → self.now.content ≡ Some w → IsWorld self.now.case w }
+        ensures sixteen { length self.now.scans ≡ 16 }
+    {
+        self.tree.case()
+    }
+
     /// Edits the tree; the events of the edit are queued in the same step.
     ///
     /// `Overflow` comes exactly where an event did not fit, `Refused` as the tree refuses.
@@ -84,7 +112,7 @@ impl<T: Tree, R: Retain, V: Versions> Machine<T, R, V> {
         ensures tells { is_some self.new.content ≡ is_some self.old.content }
         ensures faults { self.old.faults ≤ self.new.faults }
         ensures versions { self.new.versions ≡ self.old.versions }
-        ensures waiting { pending.deliveries_due self.new.pending ≤ pending.deliveries_due self.old.pending + 1 }
+        ensures waiting { pending.deliveries_due self.new.pending ≤ pending.deliveries_due self.old.pending + 2 }
     {
         // The tree's word that what it tells is a world.
         let _case = self.tree.case();
@@ -106,6 +134,7 @@ impl<T: Tree, R: Retain, V: Versions> Machine<T, R, V> {
         ensures step { (a : state.Answers) → IsStepOf V.version V.count self.old self.new a (state.CallEvent path) (fit_reply result) }
         ensures content { told_of self.new ≡ told_of self.old }
         ensures versions { self.new.versions ≡ self.old.versions }
+        ensures waiting { pending.deliveries_due self.new.pending ≤ pending.deliveries_due self.old.pending + 1 }
     {
         self.intake.put(path)
     }
@@ -207,30 +236,44 @@ fn kind_of(entry: &Entry) -> Kind
     match entry {
         Entry::Missing => Kind::Missing,
         Entry::File(_) => Kind::File,
+        Entry::Dir(_) => Kind::Dir,
     }
 }
 
+/// A scan of the path that begins now.
+///
+/// The only error is want of memory.
+fn begun<R: Retain, V: Versions>(
+    alloc: Global,
+    vfs: &Vfs<R, V>,
+    path: &Path,
+) -> Result<Scan, NoMemory>
+    ensures { IfOk result (λ s. s ≡ record { case = vfs.now.case; scan = record { path = path.now; seen = V.version vfs.now.versions (paths.place vfs.now.case path.now); partial = scanning.Unread } }) }
+{
+    let ticket = vfs.begin(path.share()?);
+    Scan::begin(alloc, vfs.case(), ticket)
+}
+
 impl<T: Tree, R: Retain, V: Versions> Machine<T, R, V> {
-    /// Begins the scan with the number, 0 to 15, at a path below the root, and answers the path's
-    /// version, which is read before the location is.
+    /// Begins the scan with the number, 0 to 15, at the path, and answers the path's version, which
+    /// is read before the location is.
     ///
     /// `AlreadyOpen` comes exactly where the scan is in progress.
     pub fn begin(&mut self, scan: u64, path: &Path) -> Began
-        requires number { scan < 16 }
-        requires below { 0 < length path.now }
+        requires { scan < 16 }
         ensures step { (a : state.Answers) → IsStepOf V.version V.count self.old self.new a (state.CallBegin scan path.now) (began_reply result) }
         ensures content { told_of self.new ≡ told_of self.old }
         ensures versions { self.new.versions ≡ self.old.versions }
+        ensures pending { self.new.pending ≡ self.old.pending }
     {
         if is_open(&self.scans, scan as usize) {
             return Began::AlreadyOpen;
         }
-        match path.share() {
+        match begun(*self.scans.allocator(), &self.vfs, path) {
             Err(NoMemory) => Began::NoMemory,
-            Ok(path) => {
-                let ticket = self.vfs.begin(path);
-                let version = ticket.seen;
-                set_scan(&mut self.scans, scan as usize, Some(Scan::begin(ticket)));
+            Ok(begun) => {
+                let version = begun.ticket().seen;
+                set_scan(&mut self.scans, scan as usize, Some(begun));
                 Began::Version(version)
             }
         }
@@ -239,8 +282,8 @@ impl<T: Tree, R: Retain, V: Versions> Machine<T, R, V> {
     /// Looks at the next location of the scan with the number.
     ///
     /// `NoScan` comes exactly where the scan is closed, `Done` exactly where no location is left,
-    /// and `Fault` only where the tree's count of faults rose in this call; after it the scan is
-    /// as before.
+    /// and `Fault` only where the tree's count of faults rose in this call; after it and after
+    /// `NoMemory` the scan is as before.
     pub fn read(&mut self, scan: u64) -> Readed
         requires { scan < 16 }
         ensures read { IsRead V.version V.count self.old self.new scan result }
@@ -249,6 +292,7 @@ impl<T: Tree, R: Retain, V: Versions> Machine<T, R, V> {
         ensures faults { self.old.faults ≤ self.new.faults }
         ensures content { self.new.content ≡ self.old.content }
         ensures versions { self.new.versions ≡ self.old.versions }
+        ensures pending { self.new.pending ≡ self.old.pending }
     {
         let path = match next_of(&self.scans, scan as usize) {
             Err(NoMemory) => return Readed::NoMemory,
@@ -262,7 +306,10 @@ impl<T: Tree, R: Retain, V: Versions> Machine<T, R, V> {
             Ok(entry) => entry,
         };
         let kind = kind_of(&entry);
-        let left = see_in(&mut self.scans, scan as usize, entry);
+        let left = match see_in(&mut self.scans, scan as usize, entry) {
+            Err(NoMemory) => return Readed::NoMemory,
+            Ok(left) => left,
+        };
         Readed::Saw(path, kind, left)
     }
 
@@ -272,6 +319,7 @@ impl<T: Tree, R: Retain, V: Versions> Machine<T, R, V> {
         requires { scan < 16 }
         ensures bytes { option_copied result ≡ option_map (λ r. scanning.contents r.partial) (running_at self.now.scans scan) }
         ensures state { (s : state.State) → Stands V.version V.count self.now s → option_copied result ≡ option_map (λ t. scanning.contents t.partial) (state.scan_of s scan) }
+        ensures shape { IfSome (running_at self.now.scans scan) (IsShapedRunning self.now.case) }
     {
         contents_of(&self.scans, scan as usize)
     }
@@ -285,15 +333,19 @@ fn publish_scan<R: Retain, V: Versions>(
     digests: &[Digest],
 ) -> Published
     requires number { scan < length scans.now }
-    requires open { is_some (running_at scans.now scan) ≡ true }
-    requires digests { AreContentsOf (running_at scans.now scan) digests.now }
+    requires open { is_some (cased_at scans.now scan) ≡ true }
+    requires done { IsDone (running_of (cased_at scans.now scan)) }
+    requires digests { AreContentsOf (running_of (cased_at scans.now scan)) digests.now }
     ensures case { vfs.new.case ≡ vfs.old.case }
     ensures versions { vfs.new.versions ≡ vfs.old.versions }
-    ensures published { IsPublished (V.version vfs.old.versions) vfs.old.case vfs.old.retained (running_at scans.now scan) vfs.new.retained result }
+    ensures published { IsPublished (V.version vfs.old.versions) vfs.old.case vfs.old.retained (running_of (cased_at scans.now scan)) vfs.new.retained result }
 {
     match &scans[scan] {
         None => unreachable!(),
-        Some(scan) => vfs.publish(scan.ticket(), scan.snapshot(digests)),
+        Some(scan) => match scan.snapshot(digests) {
+            Err(NoMemory) => Published::NoMemory,
+            Ok(snapshot) => vfs.publish(scan.ticket(), snapshot),
+        },
     }
 }
 
@@ -318,14 +370,16 @@ impl<T: Tree, R: Retain, V: Versions> Machine<T, R, V> {
     /// Publishes what the scan with the number read, whose contents have these digests, in order.
     ///
     /// The first that holds: `NoScan`, `Unfinished` where locations are left, `Stale` where a
-    /// related path was invalidated since the begin, `Covered`, `NoMemory`, `Stored`. Every answer
-    /// but NoScan, Unfinished and NoMemory closes the scan.
+    /// related path was invalidated since the begin, `Covered`, `Stored`. `NoMemory` may come in
+    /// place of the last three, since the snapshot is made before they are known. Every answer but
+    /// NoScan, Unfinished and NoMemory closes the scan.
     pub fn publish(&mut self, scan: u64, digests: &[Digest]) -> Answer
         requires number { scan < 16 }
         requires digests { AreDigests (running_at self.old.scans scan) digests.now }
         ensures step { (a : state.Answers) → IsStepOf V.version V.count self.old self.new a (state.CallPublish scan) (answer_reply result) }
         ensures content { told_of self.new ≡ told_of self.old }
         ensures versions { self.new.versions ≡ self.old.versions }
+        ensures pending { self.new.pending ≡ self.old.pending }
     {
         match left_of(&self.scans, scan as usize) {
             None => return Answer::NoScan,

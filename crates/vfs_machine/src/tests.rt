@@ -1,6 +1,6 @@
 //! Scans of a tree in memory, from the edit to what is retained, and events that are lost.
 
-ghost use Rattle.std.specs.Prelude.{◌≡◌, ◌<◌, IfOk, length};
+ghost use Rattle.std.specs.Prelude.{◌≡◌, ◌<◌, ◌≤◌, ◌+◌, ◌^◌, IfOk, OnOk, length};
 ghost use Rattle.vfs_machine.specs.Scans.{running_at, AreDigests};
 
 use crate::{Answer, Began, Delivered, Edited, Machine, Readed, digests_of};
@@ -9,6 +9,7 @@ use merkle_hash::{Bytes, Digest, file_digest};
 use snapshot_hierarchy::{FlatRetain, Retain};
 use snapshot_tree::Kind;
 use std::alloc::Global;
+use std::process::Abort;
 use std::test::Fail;
 use version_hierarchy::{FlatVersions, Versions};
 use vfs_path::Path;
@@ -18,16 +19,21 @@ fn path(alloc: Global, text: &str) -> Result<Path, Fail> {
     Ok(Path::parse(alloc, text.as_bytes())?)
 }
 
-fn write(alloc: Global, at: &str, text: &str) -> Result<Edit, Fail> {
-    let items = Vec::from_slice(alloc, text.as_bytes())?;
+fn write(alloc: Global, at: &str) -> Result<Edit, Fail> {
+    let items = Vec::from_slice(alloc, b"abc")?;
     match Bytes::from_vec(alloc, items) {
         Ok(bytes) => Ok(Edit::Write(path(alloc, at)?, bytes)),
         Err((_, refused)) => Err(Fail::from(refused)),
     }
 }
 
-/// A machine over an empty tree, with a queue for two events.
-fn machine(alloc: Global) -> Result<Machine<MemTree, FlatRetain, FlatVersions>, NoMemory>
+/// A machine over an empty tree, with a queue for so many events.
+fn machine(
+    alloc: Global,
+    queue: u64,
+) -> Result<Machine<MemTree, FlatRetain, FlatVersions>, NoMemory>
+    requires some { 1 ≤ queue }
+    requires few { queue ≤ 65536 }
     ensures { IfOk result (λ m. length m.versions.places ≡ 0) }
 {
     let made = Machine::make(
@@ -35,12 +41,27 @@ fn machine(alloc: Global) -> Result<Machine<MemTree, FlatRetain, FlatVersions>, 
         MemTree::new(alloc, Case::Insensitive),
         FlatRetain::new(alloc, Case::Insensitive),
         FlatVersions::new(alloc, Case::Insensitive),
-        2,
+        queue,
     );
     match made {
         Ok(machine) => Ok(machine),
         Err((_, _, _, refused)) => Err(refused),
     }
+}
+
+/// A directory `/d` with the files `a` and `b`, whose events wait.
+fn make_directory<T: Tree, R: Retain, V: Versions>(
+    rt: &impl Abort,
+    alloc: Global,
+    machine: &mut Machine<T, R, V>,
+) -> Result<(), Fail>
+    ensures { OnOk result (machine.new.versions ≡ machine.old.versions) }
+{
+    let directory = Edit::Mkdir(path(alloc, "/d")?);
+    assert_eq!(rt; machine.edit(&directory), Edited::Done);
+    assert_eq!(rt; machine.edit(&write(alloc, "/d/a")?), Edited::Done);
+    assert_eq!(rt; machine.edit(&write(alloc, "/d/b")?), Edited::Done);
+    Ok(())
 }
 
 /// The digests of what the scan with the number read; none where it is closed.
@@ -69,41 +90,128 @@ fn publish<T: Tree, R: Retain, V: Versions>(
     Ok(machine.publish(scan, digests.as_slice()))
 }
 
+/// Reads the next location of the scan 15, and asserts what is told of it.
+fn assert_read<T: Tree, R: Retain, V: Versions>(
+    rt: &impl Abort,
+    alloc: Global,
+    machine: &mut Machine<T, R, V>,
+    at: &str,
+    kind: Kind,
+    left: u64,
+) -> Result<(), Fail>
+    ensures { machine.new.versions ≡ machine.old.versions }
+{
+    match machine.read(15) {
+        Readed::Saw(location, seen, count) => {
+            assert_eq!(rt; location, path(alloc, at)?);
+            assert_eq!(rt; (seen, count), (kind, left), "at {at}");
+        }
+        _ => assert!(rt; false, "at {at}"),
+    }
+    Ok(())
+}
+
+/// Asserts the kind of what is retained at each path, None where nothing is known.
+fn assert_kinds<T: Tree, R: Retain, V: Versions>(
+    rt: &impl Abort,
+    alloc: Global,
+    machine: &Machine<T, R, V>,
+    wants: &[(&str, Option<Kind>)],
+) -> Result<(), Fail> {
+    for (text, want) in wants {
+        let at = path(alloc, text)?;
+        assert_eq!(rt;
+            machine.find(&at).map(|glance| glance.kind),
+            *want,
+            "at {text}"
+        );
+    }
+    Ok(())
+}
+
+/// A file is written, and its event delivered.
+fn assert_written<T: Tree, R: Retain, V: Versions + Drop>(
+    rt: &impl Abort,
+    alloc: Global,
+    machine: &mut Machine<T, R, V>,
+) -> Result<(), Fail>
+    requires { V.count machine.old.versions < 2 ^ 62 }
+{
+    assert!(rt; machine.settled());
+    assert_eq!(rt; machine.edit(&write(alloc, "/f")?), Edited::Done);
+    assert!(rt; !machine.settled());
+    assert!(rt; matches!(machine.deliver(), Delivered::Event(_)));
+    Ok(())
+}
+
+/// The path is scanned, and the scan is published.
+fn assert_scanned<T: Tree, R: Retain, V: Versions>(
+    rt: &impl Abort,
+    alloc: Global,
+    machine: &mut Machine<T, R, V>,
+    at: &Path,
+) -> Result<(), Fail> {
+    assert_eq!(rt; machine.begin(15, at), Began::Version(1));
+    assert_eq!(rt; machine.begin(15, at), Began::AlreadyOpen);
+    assert_eq!(rt; publish(alloc, machine, 15)?, Answer::Unfinished(1));
+    assert!(rt; matches!(machine.read(15), Readed::Saw(_, Kind::File, 0)));
+    assert!(rt; matches!(machine.read(15), Readed::Done));
+    assert_eq!(rt; publish(alloc, machine, 15)?, Answer::Stored);
+    assert_eq!(rt; publish(alloc, machine, 15)?, Answer::NoScan);
+    assert!(rt; matches!(machine.read(15), Readed::NoScan));
+    Ok(())
+}
+
+/// The file is found at the path.
+fn assert_found<T: Tree, R: Retain, V: Versions>(
+    rt: &impl Abort,
+    machine: &Machine<T, R, V>,
+    at: &Path,
+) -> Result<(), Fail> {
+    let digest = Some(Some(file_digest(b"abc")));
+    assert_eq!(rt; machine.find(at).map(|glance| glance.digest), digest);
+    assert_eq!(rt; machine.part(at)?.map(|part| part.digest()), digest);
+    assert_eq!(rt; machine.kind(at), Some(Kind::File));
+    assert_eq!(rt; machine.version(at), 1);
+    Ok(())
+}
+
+/// Scans `/d/a`, of which nothing is there, while the event is delivered; gives the answer of the
+/// publication.
+fn published_after<T: Tree, R: Retain, V: Versions + Drop>(
+    rt: &impl Abort,
+    alloc: Global,
+    machine: &mut Machine<T, R, V>,
+    event: &str,
+) -> Result<Answer, Fail>
+    requires { V.count machine.old.versions < 2 ^ 62 }
+{
+    assert_eq!(rt; machine.begin(15, &path(alloc, "/d/a")?), Began::Version(0));
+    assert_read(rt, alloc, machine, "/d/a", Kind::Missing, 0)?;
+    assert_eq!(rt; machine.event(path(alloc, event)?), Fit::Fits);
+    assert!(rt; matches!(machine.deliver(), Delivered::Event(_)));
+    Ok(publish(alloc, machine, 15)?)
+}
+
 #[test]
 fn scan_is_retained(rt: HostRuntime) -> Result<(), Fail> {
     let alloc = rt.alloc();
-    let mut machine = machine(alloc)?;
     let at = path(alloc, "/F")?;
-    assert!(rt; at.len() > 0);
-    assert!(rt; machine.settled());
-    assert_eq!(rt; machine.edit(&write(alloc, "/f", "abc")?), Edited::Done);
-    assert!(rt; !machine.settled());
-    assert!(rt; matches!(machine.deliver(), Delivered::Event(_)));
-    assert_eq!(rt; machine.begin(15, &at), Began::Version(1));
-    assert_eq!(rt; machine.begin(15, &at), Began::AlreadyOpen);
-    assert_eq!(rt; publish(alloc, &mut machine, 15)?, Answer::Unfinished(1));
-    assert!(rt; matches!(machine.read(15), Readed::Saw(_, Kind::File, 0)));
-    assert!(rt; matches!(machine.read(15), Readed::Done));
-    assert_eq!(rt; publish(alloc, &mut machine, 15)?, Answer::Stored);
-    assert_eq!(rt; publish(alloc, &mut machine, 15)?, Answer::NoScan);
-    assert!(rt; matches!(machine.read(15), Readed::NoScan));
-    let digest = Some(Some(file_digest(b"abc")));
-    assert_eq!(rt; machine.find(&at).map(|glance| glance.digest), digest);
-    assert_eq!(rt; machine.part(&at)?.map(|part| part.digest()), digest);
-    assert_eq!(rt; machine.kind(&at), Some(Kind::File));
-    assert_eq!(rt; machine.version(&at), 1);
-    Ok(())
+    let mut machine = machine(alloc, 2)?;
+    assert_written(&rt, alloc, &mut machine)?;
+    assert_scanned(&rt, alloc, &mut machine, &at)?;
+    assert_found(&rt, &machine, &at)
 }
 
 #[test]
 fn events_past_the_queue_are_lost(rt: HostRuntime) -> Result<(), Fail> {
     let alloc = rt.alloc();
-    let mut machine = machine(alloc)?;
-    assert_eq!(rt; machine.edit(&write(alloc, "/f", "abc")?), Edited::Done);
-    assert_eq!(rt; machine.event(path(alloc, "/g")?), Fit::Fits);
-    assert_eq!(rt; machine.edit(&write(alloc, "/h", "abc")?), Edited::Overflow);
+    let mut machine = machine(alloc, 2)?;
+    let to = Edit::Move(path(alloc, "/f")?, path(alloc, "/g")?);
+    assert_eq!(rt; machine.edit(&write(alloc, "/f")?), Edited::Done);
+    assert_eq!(rt; machine.edit(&to), Edited::Overflow);
     assert_eq!(rt;
-        machine.edit(&write(alloc, "/", "abc")?),
+        machine.edit(&write(alloc, "/")?),
         Edited::Refused(EditError::Root)
     );
     machine.lose();
@@ -112,5 +220,70 @@ fn events_past_the_queue_are_lost(rt: HostRuntime) -> Result<(), Fail> {
     assert!(rt; matches!(machine.deliver(), Delivered::Nothing));
     let tree = machine.into_tree();
     assert_eq!(rt; tree.case(), Case::Insensitive);
+    Ok(())
+}
+
+#[test]
+fn child_that_went_between_the_reads_is_left_out(rt: HostRuntime) -> Result<(), Fail> {
+    let alloc = rt.alloc();
+    let mut machine = machine(alloc, 8)?;
+    make_directory(&rt, alloc, &mut machine)?;
+    assert_eq!(rt; machine.begin(15, &path(alloc, "/d")?), Began::Version(0));
+    assert_read(&rt, alloc, &mut machine, "/d", Kind::Dir, 2)?;
+    let remove = Edit::Remove(path(alloc, "/d/a")?);
+    assert_eq!(rt; machine.edit(&remove), Edited::Done);
+    assert_read(&rt, alloc, &mut machine, "/d/a", Kind::Missing, 1)?;
+    assert_read(&rt, alloc, &mut machine, "/d/b", Kind::File, 0)?;
+    assert_eq!(rt; publish(alloc, &mut machine, 15)?, Answer::Stored);
+    let wants = [
+        ("/d", Some(Kind::Dir)),
+        ("/d/a", Some(Kind::Missing)),
+        ("/d/b", Some(Kind::File)),
+        ("/e", None),
+    ];
+    assert_kinds(&rt, alloc, &machine, &wants)
+}
+
+#[test]
+fn root_is_scanned(rt: HostRuntime) -> Result<(), Fail> {
+    let alloc = rt.alloc();
+    let mut machine = machine(alloc, 8)?;
+    make_directory(&rt, alloc, &mut machine)?;
+    assert_eq!(rt; machine.begin(15, &Path::root()), Began::Version(0));
+    for (at, kind, left) in [
+        ("/", Kind::Dir, 1),
+        ("/d", Kind::Dir, 2),
+        ("/d/a", Kind::File, 1),
+        ("/d/b", Kind::File, 0),
+    ] {
+        assert_read(&rt, alloc, &mut machine, at, kind, left)?;
+    }
+    assert_eq!(rt; publish(alloc, &mut machine, 15)?, Answer::Stored);
+    let wants = [
+        ("/", Some(Kind::Dir)),
+        ("/d/b", Some(Kind::File)),
+        ("/e", Some(Kind::Missing)),
+    ];
+    assert_kinds(&rt, alloc, &machine, &wants)
+}
+
+#[test]
+fn publication_is_stale_after_an_event_of_a_related_path(rt: HostRuntime) -> Result<(), Fail> {
+    let alloc = rt.alloc();
+    for (event, want) in [
+        ("/D/A", Answer::Stale(1)),
+        ("/d", Answer::Stale(1)),
+        ("/", Answer::Stale(1)),
+        ("/d/a/x", Answer::Stale(1)),
+        ("/d/b", Answer::Stored),
+        ("/d/ab", Answer::Stored),
+    ] {
+        let mut machine = machine(alloc, 2)?;
+        assert_eq!(rt;
+            published_after(&rt, alloc, &mut machine, event)?,
+            want,
+            "at {event}"
+        );
+    }
     Ok(())
 }

@@ -26,13 +26,13 @@ abbrev mutual
   children_gv Nothing = gnil
   children_gv (Child name s more) = gcons (bytes_code.code name) (gcons (snapshot_gv s) (children_gv more))
 
-heads : {a b c d : Gv} → gcons a b ≡ gcons c d → a ≡ c
+pub heads : {a b c d : Gv} → gcons a b ≡ gcons c d → a ≡ c
 heads e = cc
 
-tails : {a b c d : Gv} → gcons a b ≡ gcons c d → b ≡ d
+pub tails : {a b c d : Gv} → gcons a b ≡ gcons c d → b ≡ d
 tails e = cc
 
-zero≢one : gnum 0 ≡ gnum 1 → ⊥
+pub zero≢one : gnum 0 ≡ gnum 1 → ⊥
 zero≢one e = cc
 
 mutual

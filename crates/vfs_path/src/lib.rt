@@ -9,7 +9,7 @@ mod text;
 
 pub use error::PathError;
 pub use name::{Name, Names};
-pub use path::{Path, Paths};
+pub use path::{Path, Paths, begin_with};
 
 /// Names, paths and lists of them may be shared by threads.
 pub fn shares_with_threads(name: &Name, path: &Path, names: &Names, paths: &Paths) {

@@ -191,8 +191,9 @@ impl Path {
     }
 }
 
-/// Whether the second list of names begins with the first.
-fn begin_with(case: Case, front: &[Name], names: &[Name]) -> bool
+/// Whether the names of the first list are, one by one, the same as the first names of the second:
+/// the first, as a path, is at or above the second.
+pub fn begin_with(case: Case, front: &[Name], names: &[Name]) -> bool
     ensures { result ≡ is_at_or_above (place case front.now) (place case names.now) }
 {
     match front {

@@ -7,3 +7,7 @@ pub mod ReplyLemmas
 pub mod LineLemmas
 pub mod WordLemmas
 pub mod ReportRows
+pub mod ScannedLemmas
+pub mod OpeningLemmas
+pub mod ReadLemmas
+pub mod RunLemmas

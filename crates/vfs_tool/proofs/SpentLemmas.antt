@@ -1,19 +1,20 @@
--- A line makes at most one more invalidation, made or due.
-use Rattle.std.proofs.Common.{◌≡◌, ℕ, ◌+◌, ◌≤◌, Bool, true, false, List, [], ◌∷◌, ◌++◌, length, Option, Some, None, refl, ap, ◌∙◌, arith, length-append, if◌then◌else◌}
+-- A line makes at most two more invalidations, made or due.
+use Rattle.std.proofs.Common.{◌≡◌, ℕ, zero, suc, ◌+◌, ◌≤◌, Bool, true, false, [], ◌∷◌, ◌++◌, length, Option, Some, None, refl, ap, ◌∙◌, arith, length-append, if◌then◌else◌}
 use Rattle.std.specs.Prelude.{is_some}
 use Rattle.vfs_model.specs.Paths.{Path}
-use Rattle.vfs_model.specs.Edit.{Write, Refusal, refusal}
-use Rattle.vfs_model.specs.Pending.{Pending, deliveries_due, put, has_room}
+use Rattle.vfs_model.specs.Edit.{Edit as TreeEdit, Write, Mkdir, Remove, Move, Refusal, refusal, events}
+use Rattle.vfs_model.specs.Pending.{Pending, deliveries_due, put, put_all, has_room}
 use Rattle.vfs_model.specs.Retained.{is_covered}
 use Rattle.vfs_model.specs.Scanning.{Scan, Look, next_left, is_overtaken}
-use Rattle.vfs_model.specs.State.{State, edit_by, edit_answer_or, begin_or, read_or, read_next, publish_or, publish_next, publish_when, scan_of, look_due}
+use Rattle.vfs_model.specs.State.{State, CallBegin, told_step, edit_by, edit_answer_or, begin_or, read_or, read_next, publish_or, publish_next, publish_when, scan_of, look_due}
 use Rattle.vfs_model.specs.Paths.{place}
 use Rattle.vfs_model.specs.Stands.{Parts, Stands}
-use Rattle.world_model.specs.declared.edit.Edit.TheVariants.{Write as WriteValue}
+use Rattle.world_model.specs.Meaning.{edit_of}
 use Rattle.script_reader.specs.declared.script.Command.{Command}
-use Rattle.script_reader.specs.declared.script.Command.TheVariants.{Edit, Settle, Begin, Read, Publish, Find}
+use Rattle.script_reader.specs.declared.script.Command.TheVariants.{Edit, Event, Deliver, Settle, Begin, Read, Publish, Scan as ScanLine, Find, KindOf, VersionOf}
 use Rattle.script_reader.specs.declared.script.Line.{Line}
-use Rattle.vfs_tool.specs.Report.{printed, printed_for}
+use Rattle.vfs_tool.specs.Report.{printed, printed_for, scanned_or}
+use Rattle.vfs_tool.specs.Scanned.{reads_due, after_reads}
 use Rattle.vfs_tool.specs.Printing.{IsReady}
 use Rattle.vfs_tool.proofs.SettleLemmas.{spent-after}
 
@@ -31,9 +32,22 @@ put-by e p false = omega arith
 put-due : (e : Path) (p : Pending) → deliveries_due (put e p) ≤ deliveries_due p + 1
 put-due e p = put-by e p (has_room p)
 
-edit-by : (s : State) (p : Path) (bytes : List ℕ) (r : Option Refusal) → spent (edit_by s (Write p bytes) (edit_answer_or (Write p bytes) r)).state ≤ spent s + 1
-edit-by s p bytes None = let d = put-due p s.pending in omega (arith, d)
-edit-by s p bytes (Some r) = omega arith
+one-due : (e : Path) (p : Pending) → deliveries_due (put_all (e ∷ []) p) ≤ deliveries_due p + 1
+one-due e p = put-due e p
+
+two-due : (e f : Path) (p : Pending) → deliveries_due (put_all (e ∷ f ∷ []) p) ≤ deliveries_due p + 2
+two-due e f p = let a = put-due e p in let b = put-due f (put e p) in omega (arith, a, b)
+
+-- an edit tells at most two events
+told-due : (edit : TreeEdit) (p : Pending) → deliveries_due (put_all (events edit) p) ≤ deliveries_due p + 2
+told-due (Write p bytes) q = let a = one-due p q in omega (arith, a)
+told-due (Mkdir p) q = let a = one-due p q in omega (arith, a)
+told-due (Remove p) q = let a = one-due p q in omega (arith, a)
+told-due (Move from to) q = two-due from to q
+
+edit-by : (s : State) (edit : TreeEdit) (r : Option Refusal) → spent (edit_by s edit (edit_answer_or edit r)).state ≤ spent s + 2
+edit-by s edit None = let d = told-due edit s.pending in omega (arith, d)
+edit-by s edit (Some r) = omega arith
 
 begin-spent : (s : State) (c : ℕ) (p : Path) (o : Option Scan) → spent (begin_or s c p o).state ≡ spent s
 begin-spent s c p None = refl
@@ -61,15 +75,33 @@ publish-spent : (s : State) (c : ℕ) (o : Option Scan) → spent (publish_or s 
 publish-spent s c None = refl
 publish-spent s c (Some scan) = left-spent s c scan (next_left scan.partial)
 
+-- ---- whole scans
+
+reads-spent : (n : ℕ) (s : State) (c : ℕ) → spent (after_reads n s c) ≡ spent s
+reads-spent zero s c = refl
+reads-spent (suc n) s c = let t = after_reads n s c in read-spent t c (scan_of t c) (look_due t (scan_of t c)) ∙ reads-spent n s c
+
+scan-spent : (s : State) (c : ℕ) (p : Path) (o : Option Scan) → spent (scanned_or s c p o).state ≡ spent s
+scan-spent s c p (Some scan) = begin-spent s c p (scan_of s c)
+scan-spent s c p None =
+    let b = (told_step s (CallBegin c p)).state in
+    let t = after_reads (reads_due s p) b c in
+    publish-spent t c (scan_of t c) ∙ reads-spent (reads_due s p) b c ∙ begin-spent s c p (scan_of s c)
+
 -- ---- a line
 
-pub command-spent : (s : State) (caller : ℕ) (command : Command) → spent (printed_for s caller command).state ≤ spent s + 1
-command-spent s caller (Edit (WriteValue p bytes)) = edit-by s p bytes (refusal s.case s.world (Write p bytes))
+pub command-spent : (s : State) (caller : ℕ) (command : Command) → spent (printed_for s caller command).state ≤ spent s + 2
+command-spent s caller (Edit edit) = edit-by s (edit_of edit) (refusal s.case s.world (edit_of edit))
+command-spent s caller (Event p) = let d = put-due p s.pending in omega (arith, d)
+command-spent s caller Deliver = let e = spent-after 1 s in omega (arith, e)
 command-spent s caller Settle = let e = spent-after (deliveries_due s.pending) s in omega (arith, e)
 command-spent s caller (Begin p) = let e = begin-spent s caller p (scan_of s caller) in omega (arith, e)
 command-spent s caller Read = let e = read-spent s caller (scan_of s caller) (look_due s (scan_of s caller)) in omega (arith, e)
 command-spent s caller Publish = let e = publish-spent s caller (scan_of s caller) in omega (arith, e)
+command-spent s caller (ScanLine p) = let e = scan-spent s caller p (scan_of s caller) in omega (arith, e)
 command-spent s caller (Find p) = omega arith
+command-spent s caller (KindOf p) = omega arith
+command-spent s caller (VersionOf p) = omega arith
 
 -- the machine has made, or has due, as many as the state that it stands for
 spent-same : {V : Type 0} (at : V → Path → ℕ) (count : V → ℕ) (m : Parts V) (s : State) → Stands at count m s → count m.versions + deliveries_due m.pending ≡ spent s

@@ -7,3 +7,5 @@ pub mod Statuses
 pub mod Input
 pub mod Output
 pub mod Run
+pub mod Scanned
+pub mod Lines

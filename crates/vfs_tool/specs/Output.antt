@@ -4,11 +4,7 @@ use Rattle.std.specs.List.{concat}
 use Rattle.std.specs.declared.option.Option.{Option}
 use Rattle.std.specs.Io.KnownBytes.{Appends}
 use Rattle.vfs_model.specs.Faults.{Rose}
-use Rattle.vfs_model.specs.Paths.{Path}
-use Rattle.vfs_model.specs.State.{State}
-use Rattle.vfs_model.specs.Stands.{Parts, Stands}
-use Rattle.script_reader.specs.declared.script.Line.{Line}
-use Rattle.vfs_tool.specs.Report.{report_lines}
+use Rattle.vfs_tool.specs.Lines.{Printed, output_lines}
 use Rattle.vfs_tool.specs.declared.output.Break.{Break}
 use Rattle.vfs_tool.specs.declared.output.Break.TheVariants.{Fault, NoMemory}
 
@@ -17,6 +13,6 @@ abbrev pub Breaks : ℕ → ℕ → Option (List ℕ) → Option (List ℕ) → 
 Breaks faults now before after lines Fault = Rose faults now × ((n : ℕ) × Appends before after (take n (concat lines)))
 Breaks faults now before after lines NoMemory = (k : ℕ) × Appends before after (concat (take k lines))
 
--- for every state that the machine stood for, so the report on the lines broke off
-abbrev pub BreaksOff : {V : Type 0} → (V → Path → ℕ) → (V → ℕ) → Parts V → List Line → ℕ → ℕ → Option (List ℕ) → Option (List ℕ) → Break → Type 0
-BreaksOff at count old lines faults now before after e = (s : State) → Stands at count old s → Breaks faults now before after (report_lines s lines) e
+-- for every state that stood for what was before, so the report on the lines broke off
+abbrev pub BreaksOff : {S X : Type 0} → (S → X → Printed S) → (S → Type 0) → List X → ℕ → ℕ → Option (List ℕ) → Option (List ℕ) → Break → Type 0
+BreaksOff {S} print before lines faults now written now_written e = (s : S) → before s → Breaks faults now written now_written (output_lines print s lines) e

@@ -7,7 +7,7 @@ use Rattle.vfs_model.specs.Paths.{Path}
 use Rattle.vfs_model.specs.declared.Kind.{Kind}
 use Rattle.vfs_model.specs.declared.Kind.TheVariants.{Missing, File, Dir}
 use Rattle.vfs_model.specs.Edit.{Refusal, Root, NoParent, NotDir, Exists, Absent, IntoItself, TooDeep, Crowded, ReadOnly}
-use Rattle.vfs_model.specs.State.{Reply, Refused, Done, Overflow, Fits, Lost, Cleared, Delivered, NothingPending, AlreadyOpen, Version, NoScan, AllRead, Saw, Unfinished, Stale, Covered, Stored, Found, Fault, Glance}
+use Rattle.vfs_model.specs.State.{Reply, Refused, Done, Overflow, Fits, Lost, Cleared, Delivered, NothingPending, AlreadyOpen, Version, NoScan, AllRead, Saw, Unfinished, Stale, Covered, Stored, Found, KindIs, Fault, Glance}
 use Rattle.vfs_model.specs.History.{is_no_memory}
 use Rattle.vfs_tool.specs.Spelling.{spelled}
 
@@ -42,6 +42,11 @@ abbrev pub found_text : Option Glance → List ℕ
 found_text None = codes "unknown"
 found_text (Some g) = kind_text g.kind ++ digest_text g.digest
 
+-- the kind, where it is known
+abbrev pub known_text : Option Kind → List ℕ
+known_text None = codes "unknown"
+known_text (Some kind) = kind_text kind
+
 -- the text that is printed for a reply, and none for a reply that no line of a script gives yet
 abbrev pub reply_text : Reply → List ℕ
 reply_text (Refused refusal) = codes "refused " ++ decimal (number_of_refusal refusal)
@@ -62,6 +67,7 @@ reply_text (Stale n) = codes "stale " ++ decimal n
 reply_text Covered = codes "covered"
 reply_text Stored = codes "stored"
 reply_text (Found glance) = found_text glance
+reply_text (KindIs kind) = known_text kind
 reply_text Fault = codes "fault"
 reply_text _ = []
 

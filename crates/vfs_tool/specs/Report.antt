@@ -1,25 +1,58 @@
 -- What a replay prints: a fold of the model's step over the lines of a script.
-use Rattle.std.specs.Prelude.{ℕ, zero, suc, List, [], ◌∷◌, ◌++◌, codes}
+use Rattle.std.specs.Prelude.{ℕ, zero, suc, List, ◌++◌, codes, Option, Some, None}
 use Rattle.std.specs.List.{concat}
 use Rattle.std.specs.Fmt.{decimal}
 use Rattle.vfs_model.specs.declared.Case.TheVariants.{Sensitive}
 use Rattle.vfs_model.specs.Pending.{deliveries_due}
-use Rattle.vfs_model.specs.State.{State, Call, CallEdit, CallDeliver, CallBegin, CallRead, CallPublish, CallFind, told_step}
+use Rattle.vfs_model.specs.Paths.{Path}
+use Rattle.vfs_model.specs.World.{World}
+use Rattle.vfs_model.specs.Edit.{Edit as TreeEdit, Write, Mkdir, Refusal, refusal, apply}
+use Rattle.vfs_model.specs.Scanning.{Scan as ScanInProgress}
+use Rattle.vfs_model.specs.State.{State, Call, CallEdit, CallEvent, CallDeliver, CallBegin, CallRead, CallPublish, CallFind, CallKind, CallVersion, Reply, Refused, Done, scan_of, told_step}
 use Rattle.vfs_model.specs.History.{opening, empty_world}
 use Rattle.world_model.specs.Meaning.{edit_of}
 use Rattle.script_reader.specs.declared.script.Command.{Command}
-use Rattle.script_reader.specs.declared.script.Command.TheVariants.{Edit, Settle, Begin, Read, Publish, Find}
+use Rattle.script_reader.specs.declared.script.Command.TheVariants.{Edit, Event, Deliver, Settle, Begin, Read, Publish, Scan, Find, KindOf, VersionOf}
+use Rattle.script_reader.specs.declared.script.Opening.{Opening}
+use Rattle.script_reader.specs.declared.script.Opening.TheVariants as opening_line
 use Rattle.script_reader.specs.declared.script.Line.{Line}
 use Rattle.script_reader.specs.declared.script.Script.{Script}
 use Rattle.vfs_tool.specs.Replies.{reply_text}
+use Rattle.vfs_tool.specs.Lines.{Printed, output_lines, state_after}
+use Rattle.vfs_tool.specs.Scanned.{reads_due, after_reads}
 
--- what a command line prints, without its line end, and the state after it
-pub record Printed : Type 0 where
-  pub text : List ℕ
-  pub state : State
+-- ---- opening lines
+
+-- the edit of the tree that an opening line asks for
+abbrev pub opening_edit : Opening → TreeEdit
+opening_edit (opening_line.Dir p) = Mkdir p
+opening_edit (opening_line.File p bytes) = Write p bytes
+
+-- the reply to an opening line, by the refusal of its edit
+abbrev pub opening_reply : Option Refusal → Reply
+opening_reply None = Done
+opening_reply (Some r) = Refused r
+
+-- the world after an edit, by its refusal
+abbrev pub world_unless : World → TreeEdit → Option Refusal → World
+world_unless world edit None = apply Sensitive world edit
+world_unless world edit (Some r) = world
+
+-- why the edit of an opening line is refused
+abbrev pub opening_refusal : World → Opening → Option Refusal
+opening_refusal world o = refusal Sensitive world (opening_edit o)
+
+-- what an opening line prints, and the world after it
+abbrev pub printed_opening : World → Opening → Printed World
+printed_opening world o = record {
+  text = reply_text (opening_reply (opening_refusal world o));
+  state = world_unless world (opening_edit o) (opening_refusal world o);
+}
+
+-- ---- command lines
 
 -- the text of the reply to one call, and the state after the call
-abbrev pub by_call : State → Call → Printed
+abbrev pub by_call : State → Call → Printed State
 by_call s call = record { text = reply_text (told_step s call).reply; state = (told_step s call).state }
 
 -- the state after so many deliveries
@@ -28,45 +61,50 @@ after_deliveries zero s = s
 after_deliveries (suc n) s = (told_step (after_deliveries n s) CallDeliver).state
 
 -- all that is pending is delivered, and the deliveries are counted
-abbrev pub settled : State → Printed
+abbrev pub settled : State → Printed State
 settled s = record {
   text = codes "settled " ++ decimal (deliveries_due s.pending);
   state = after_deliveries (deliveries_due s.pending) s;
 }
 
+-- the scan is published, and the reads that it took are counted
+abbrev pub published_after : ℕ → State → ℕ → Printed State
+published_after reads s caller = record {
+  text = reply_text (told_step s (CallPublish caller)).reply ++ codes " reads " ++ decimal reads;
+  state = (told_step s (CallPublish caller)).state;
+}
+
+-- a whole scan of the path: its begin, as many reads as are due, and its publication; only the begin where the caller's scan is in progress
+abbrev pub scanned_or : State → ℕ → Path → Option ScanInProgress → Printed State
+scanned_or s caller path (Some scan) = by_call s (CallBegin caller path)
+scanned_or s caller path None = published_after (reads_due s path) (after_reads (reads_due s path) (told_step s (CallBegin caller path)).state caller) caller
+
 -- what a command prints, where this caller gives it
-abbrev pub printed_for : State → ℕ → Command → Printed
+abbrev pub printed_for : State → ℕ → Command → Printed State
 printed_for s caller (Edit edit) = by_call s (CallEdit (edit_of edit))
+printed_for s caller (Event path) = by_call s (CallEvent path)
+printed_for s caller Deliver = by_call s CallDeliver
 printed_for s caller Settle = settled s
 printed_for s caller (Begin path) = by_call s (CallBegin caller path)
 printed_for s caller Read = by_call s (CallRead caller)
 printed_for s caller Publish = by_call s (CallPublish caller)
+printed_for s caller (Scan path) = scanned_or s caller path (scan_of s caller)
 printed_for s caller (Find path) = by_call s (CallFind path)
+printed_for s caller (KindOf path) = by_call s (CallKind path)
+printed_for s caller (VersionOf path) = by_call s (CallVersion path)
 
-abbrev pub printed : State → Line → Printed
+abbrev pub printed : State → Line → Printed State
 printed s line = printed_for s line.caller line.command
 
--- the same with its line end
-abbrev pub printed_line : State → Line → Printed
-printed_line s line = record { text = (printed s line).text ++ 10 ∷ []; state = (printed s line).state }
+-- ---- scripts
 
--- the output lines of these lines
-abbrev pub report_lines : State → List Line → List (List ℕ)
-report_lines s [] = []
-report_lines s (line ∷ lines) = (printed_line s line).text ∷ report_lines (printed s line).state lines
-
--- the state after the lines
-abbrev pub state_after : State → List Line → State
-state_after s [] = s
-state_after s (line ∷ lines) = state_after (printed s line).state lines
-
--- the state in which a script begins: an empty tree, and a queue of 1,024 events
-abbrev pub opening_state : State
-opening_state = opening Sensitive 1024 empty_world
+-- the state in which the command lines of a script begin: the tree that its opening lines make of the empty one, and a queue of 1,024 events
+abbrev pub opening_state : Script → State
+opening_state script = opening Sensitive 1024 (state_after printed_opening empty_world script.opening)
 
 -- the lines that are printed for a script
 abbrev pub lines_of : Script → List (List ℕ)
-lines_of script = report_lines opening_state script.lines
+lines_of script = output_lines printed_opening empty_world script.opening ++ output_lines printed (opening_state script) script.lines
 
 -- all that is printed for a script
 abbrev pub report_of : Script → List ℕ

@@ -7,6 +7,7 @@
 
 mod input;
 pub mod laws;
+mod opening;
 mod output;
 mod replay;
 mod report;

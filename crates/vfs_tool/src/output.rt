@@ -1,14 +1,17 @@
-//! Output lines, put one by one as the command lines are run.
+//! Output lines, put one by one as the lines of a script are done.
 
-ghost use Rattle.std.specs.Prelude.{◌≡◌, ◌≤◌, [], ◌∷◌, ◌++◌, length, IfOk, IfErr, OnOk, is_some};
+ghost use Rattle.std.specs.Prelude.{◌≡◌, ◌≤◌, [], ◌∷◌, length, IfErr, OnOk, is_some};
 ghost use Rattle.std.specs.List.{AllByRecursion as Each};
-ghost use Rattle.vfs_tool.specs.Report.{printed_line};
-ghost use Rattle.vfs_tool.specs.Printing.{CanRun, IsReady, IsPrinted, RunsAll};
-ghost use Rattle.vfs_tool.specs.Output.{BreaksOff};
+ghost use Rattle.std.specs.Io.KnownBytes.{Appends};
+ghost use Rattle.vfs_model.specs.Stands.{Stands};
+ghost use Rattle.vfs_tool.specs.Lines.{ended};
+ghost use Rattle.vfs_tool.specs.Report.{printed, printed_opening};
+ghost use Rattle.vfs_tool.specs.Printing.{CanRun, IsReady, RunsAll, HoldsWorld};
+ghost use Rattle.vfs_tool.specs.Output.{Breaks, BreaksOff};
 
+use crate::opening::open;
 use crate::replay::run_line;
-use case_order::NoMemory;
-use script_reader::Line;
+use script_reader::{Line, Opening};
 use snapshot_hierarchy::Retain;
 use std::alloc::Global;
 use version_hierarchy::Versions;
@@ -25,28 +28,66 @@ pub(crate) enum Break {
     NoMemory,
 }
 
-fn with_line_end(mut text: Vec<u8>) -> Result<Vec<u8>, NoMemory>
-    ensures { IfOk result (λ line. line.items ≡ text.items ++ 10 ∷ []) }
+/// Puts the text as a line of its own, by one put.
+fn put_text<K: Sink>(mut text: Vec<u8>, sink: &mut K) -> Result<(), Break>
+    ensures ok { OnOk result
+        (Appends (K.written sink.old) (K.written sink.new) (ended text.items)) }
+    ensures err { IfErr result (λ e. Breaks (K.faults sink.old) (K.faults sink.new)
+        (K.written sink.old) (K.written sink.new) (ended text.items ∷ []) e) }
+    ensures later { K.faults sink.old ≤ K.faults sink.new }
 {
-    text.push(b'\n')?;
-    Ok(text)
+    if text.push(b'\n').is_err() {
+        return Err(Break::NoMemory);
+    }
+    match sink.put(text.as_slice()) {
+        Ok(()) => Ok(()),
+        Err(Failed) => Err(Break::Fault),
+    }
 }
 
-/// Runs a command line, and gives its output line.
-fn output_line<T: Tree, R: Retain, V: Versions + Drop>(
+/// Does what an opening line asks for, and puts its output line.
+fn put_opening<T: Tree, K: Sink>(
     alloc: Global,
-    machine: &mut Machine<T, R, V>,
-    line: &Line,
-) -> Result<Vec<u8>, NoMemory>
-    requires line { CanRun line.now }
-    requires ready { IsReady V.version V.count machine.old 1 }
-    requires faultless { T.most_faults ≡ 0 }
-    ensures printed { IfOk result (λ text. IsPrinted V.version V.count machine.old machine.new
-        (λ s. printed_line s line.now) text.items) }
-    ensures tells { is_some machine.new.content ≡ is_some machine.old.content }
+    tree: &mut T,
+    opening: &Opening,
+    sink: &mut K,
+) -> Result<(), Break>
+    ensures ok { OnOk result (RunsAll printed_opening
+        (HoldsWorld (T.told tree.old)) (HoldsWorld (T.told tree.new)) (opening.now ∷ [])
+        (K.written sink.old) (K.written sink.new)) }
+    ensures err { IfErr result (λ e. BreaksOff printed_opening
+        (HoldsWorld (T.told tree.old)) (opening.now ∷ [])
+        (K.faults sink.old) (K.faults sink.new) (K.written sink.old) (K.written sink.new) e) }
+    ensures later { K.faults sink.old ≤ K.faults sink.new }
 {
-    let text = run_line(alloc, machine, line)?;
-    with_line_end(text)
+    let Ok(text) = open(alloc, tree, opening) else {
+        return Err(Break::NoMemory);
+    };
+    put_text(text, sink)
+}
+
+/// Does what the opening lines ask for, in order, and puts the output line of each.
+///
+/// `Fault` comes only where the sink's count of faults rose in this call; the only other error is
+/// want of memory.
+pub(crate) fn put_openings<T: Tree, K: Sink>(
+    alloc: Global,
+    tree: &mut T,
+    openings: &[Opening],
+    sink: &mut K,
+) -> Result<(), Break>
+    ensures ok { OnOk result (RunsAll printed_opening
+        (HoldsWorld (T.told tree.old)) (HoldsWorld (T.told tree.new)) openings.now
+        (K.written sink.old) (K.written sink.new)) }
+    ensures err { IfErr result (λ e. BreaksOff printed_opening
+        (HoldsWorld (T.told tree.old)) openings.now
+        (K.faults sink.old) (K.faults sink.new) (K.written sink.old) (K.written sink.new) e) }
+    ensures later { K.faults sink.old ≤ K.faults sink.new }
+{
+    for opening in openings {
+        put_opening(alloc, tree, opening, sink)?;
+    }
+    Ok(())
 }
 
 /// Runs a command line, and puts its output line.
@@ -59,20 +100,19 @@ fn put_line<T: Tree, R: Retain, V: Versions + Drop, K: Sink>(
     requires line { CanRun line.now }
     requires ready { IsReady V.version V.count machine.old 1 }
     requires faultless { T.most_faults ≡ 0 }
-    ensures ok { OnOk result (RunsAll V.version V.count machine.old machine.new (line.now ∷ [])
-        (K.written sink.old) (K.written sink.new)) }
-    ensures err { IfErr result (λ e. BreaksOff V.version V.count machine.old (line.now ∷ [])
+    ensures ok { OnOk result (RunsAll printed
+        (Stands V.version V.count machine.old) (Stands V.version V.count machine.new)
+        (line.now ∷ []) (K.written sink.old) (K.written sink.new)) }
+    ensures err { IfErr result (λ e. BreaksOff printed
+        (Stands V.version V.count machine.old) (line.now ∷ [])
         (K.faults sink.old) (K.faults sink.new) (K.written sink.old) (K.written sink.new) e) }
     ensures tells { is_some machine.new.content ≡ is_some machine.old.content }
     ensures later { K.faults sink.old ≤ K.faults sink.new }
 {
-    let Ok(text) = output_line(alloc, machine, line) else {
+    let Ok(text) = run_line(alloc, machine, line) else {
         return Err(Break::NoMemory);
     };
-    match sink.put(text.as_slice()) {
-        Ok(()) => Ok(()),
-        Err(Failed) => Err(Break::Fault),
-    }
+    put_text(text, sink)
 }
 
 /// Runs the command lines in order, and puts the output line of each.
@@ -88,9 +128,11 @@ pub(crate) fn run_lines<T: Tree, R: Retain, V: Versions + Drop, K: Sink>(
     requires lines { Each CanRun lines.now }
     requires ready { IsReady V.version V.count machine.old (length lines.now) }
     requires faultless { T.most_faults ≡ 0 }
-    ensures ok { OnOk result (RunsAll V.version V.count machine.old machine.new lines.now
-        (K.written sink.old) (K.written sink.new)) }
-    ensures err { IfErr result (λ e. BreaksOff V.version V.count machine.old lines.now
+    ensures ok { OnOk result (RunsAll printed
+        (Stands V.version V.count machine.old) (Stands V.version V.count machine.new)
+        lines.now (K.written sink.old) (K.written sink.new)) }
+    ensures err { IfErr result (λ e. BreaksOff printed
+        (Stands V.version V.count machine.old) lines.now
         (K.faults sink.old) (K.faults sink.new) (K.written sink.old) (K.written sink.new) e) }
     ensures later { K.faults sink.old ≤ K.faults sink.new }
 {

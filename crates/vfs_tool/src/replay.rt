@@ -1,22 +1,28 @@
 //! Command lines, run one after the other on a machine.
 
-ghost use Rattle.std.specs.Prelude.{◌≡◌, ◌<◌, ◌+◌, ◌^◌, true, length, IfOk, is_some};
+ghost use Rattle.std.specs.Prelude.{◌≡◌, ◌<◌, ◌+◌, ◌^◌, ◌++◌, true, codes, IfOk, is_some};
 ghost use Rattle.vfs_model.specs.Pending as pending;
 ghost use Rattle.vfs_model.specs.State as state;
 ghost use Rattle.world_model.specs.Meaning.{edit_of};
 ghost use Rattle.vfs_machine.specs.Scans.{running_at, AreDigests};
-ghost use Rattle.vfs_tool.specs.Report.{by_call, settled, printed};
-ghost use Rattle.vfs_tool.specs.Printing.{CanRun, IsReady, IsPrinted};
+ghost use Rattle.vfs_tool.specs.Report.{by_call, settled, scanned_or, printed};
+ghost use Rattle.vfs_tool.specs.Scanned.{ReadsOn};
+ghost use Rattle.vfs_tool.specs.Printing.{CanRun, IsReady, IsPrinted, IsPrintedOn};
+ghost use Rattle.vfs_model.specs.Stands.{Stands};
+ghost use Rattle.std.specs.Fmt.{decimal};
 ghost use Rattle.vfs_tool.specs.Settling.{Settles};
 
-use crate::report::{began_text, edited_text, found_text, numbered, published_text, readed_text};
-use case_order::NoMemory;
+use crate::report::{
+    began_text, delivered_text, edited_text, fit_text, found_text, known_text, numbered,
+    published_text, put_number, readed_text, word,
+};
+use case_order::{NoMemory, Share};
 use merkle_hash::Digest;
 use script_reader::{Command, Line};
 use snapshot_hierarchy::Retain;
 use std::alloc::Global;
 use version_hierarchy::Versions;
-use vfs_machine::{Delivered, Machine, digests_of};
+use vfs_machine::{Began, Delivered, Machine, Readed, digests_of};
 use vfs_path::Path;
 use world_model::{Edit, Tree};
 
@@ -26,11 +32,36 @@ fn edit_line<T: Tree, R: Retain, V: Versions>(
     edit: &Edit,
 ) -> Result<Vec<u8>, NoMemory>
     requires { is_some machine.old.content ≡ true }
-    ensures printed { IfOk result (λ text. IsPrinted V.version V.count machine.old machine.new
+    ensures printed { IfOk result (λ text. IsPrinted (Stands V.version V.count machine.old) (Stands V.version V.count machine.new)
         (λ s. by_call s (state.CallEdit (edit_of edit.now))) text.items) }
     ensures tells { is_some machine.new.content ≡ is_some machine.old.content }
 {
     edited_text(alloc, machine.edit(edit))
+}
+
+fn event_line<T: Tree, R: Retain, V: Versions>(
+    alloc: Global,
+    machine: &mut Machine<T, R, V>,
+    path: &Path,
+) -> Result<Vec<u8>, NoMemory>
+    ensures printed { IfOk result (λ text. IsPrinted (Stands V.version V.count machine.old) (Stands V.version V.count machine.new)
+        (λ s. by_call s (state.CallEvent path.now)) text.items) }
+    ensures tells { is_some machine.new.content ≡ is_some machine.old.content }
+{
+    let path = path.share()?;
+    fit_text(alloc, machine.event(path))
+}
+
+fn deliver_line<T: Tree, R: Retain, V: Versions + Drop>(
+    alloc: Global,
+    machine: &mut Machine<T, R, V>,
+) -> Result<Vec<u8>, NoMemory>
+    requires { V.count machine.old.versions < 2 ^ 62 }
+    ensures printed { IfOk result (λ text. IsPrinted (Stands V.version V.count machine.old) (Stands V.version V.count machine.new)
+        (λ s. by_call s state.CallDeliver) text.items) }
+    ensures tells { is_some machine.new.content ≡ is_some machine.old.content }
+{
+    delivered_text(alloc, &machine.deliver())
 }
 
 /// Delivers until nothing is pending, and counts the deliveries.
@@ -57,7 +88,7 @@ fn settle_line<T: Tree, R: Retain, V: Versions + Drop>(
     machine: &mut Machine<T, R, V>,
 ) -> Result<Vec<u8>, NoMemory>
     requires { V.count machine.old.versions + pending.deliveries_due machine.old.pending < 2 ^ 62 }
-    ensures printed { IfOk result (λ text. IsPrinted V.version V.count machine.old machine.new
+    ensures printed { IfOk result (λ text. IsPrinted (Stands V.version V.count machine.old) (Stands V.version V.count machine.new)
         settled text.items) }
     ensures tells { is_some machine.new.content ≡ is_some machine.old.content }
 {
@@ -71,9 +102,8 @@ fn begin_line<T: Tree, R: Retain, V: Versions>(
     caller: u64,
     path: &Path,
 ) -> Result<Vec<u8>, NoMemory>
-    requires caller { caller < 16 }
-    requires below { 0 < length path.now }
-    ensures printed { IfOk result (λ text. IsPrinted V.version V.count machine.old machine.new
+    requires { caller < 16 }
+    ensures printed { IfOk result (λ text. IsPrinted (Stands V.version V.count machine.old) (Stands V.version V.count machine.new)
         (λ s. by_call s (state.CallBegin caller path.now)) text.items) }
     ensures tells { is_some machine.new.content ≡ is_some machine.old.content }
 {
@@ -88,7 +118,7 @@ fn read_line<T: Tree, R: Retain, V: Versions>(
     requires caller { caller < 16 }
     requires content { is_some machine.old.content ≡ true }
     requires faultless { T.most_faults ≡ 0 }
-    ensures printed { IfOk result (λ text. IsPrinted V.version V.count machine.old machine.new
+    ensures printed { IfOk result (λ text. IsPrinted (Stands V.version V.count machine.old) (Stands V.version V.count machine.new)
         (λ s. by_call s (state.CallRead caller)) text.items) }
     ensures tells { is_some machine.new.content ≡ is_some machine.old.content }
 {
@@ -117,7 +147,7 @@ fn publish_line<T: Tree, R: Retain, V: Versions>(
     caller: u64,
 ) -> Result<Vec<u8>, NoMemory>
     requires { caller < 16 }
-    ensures printed { IfOk result (λ text. IsPrinted V.version V.count machine.old machine.new
+    ensures printed { IfOk result (λ text. IsPrinted (Stands V.version V.count machine.old) (Stands V.version V.count machine.new)
         (λ s. by_call s (state.CallPublish caller)) text.items) }
     ensures tells { is_some machine.new.content ≡ is_some machine.old.content }
 {
@@ -125,15 +155,110 @@ fn publish_line<T: Tree, R: Retain, V: Versions>(
     published_text(alloc, machine.publish(caller, digests.as_slice()))
 }
 
+/// Reads until an answer is not `Saw`, and counts those that are.
+fn read_on<T: Tree, R: Retain, V: Versions>(
+    machine: &mut Machine<T, R, V>,
+    caller: u64,
+) -> Result<u64, NoMemory>
+    requires caller { caller < 16 }
+    requires content { is_some machine.old.content ≡ true }
+    requires faultless { T.most_faults ≡ 0 }
+    ensures read { IfOk result (λ n.
+        ReadsOn V.version V.count machine.old machine.new caller n) }
+    ensures content { machine.new.content ≡ machine.old.content }
+{
+    for count in 0..u64::MAX {
+        match machine.read(caller) {
+            Readed::Saw(_, _, _) => {}
+            Readed::Done => return Ok(count),
+            Readed::NoScan => return Ok(count),
+            Readed::Fault => return Ok(count),
+            Readed::NoMemory => return Err(NoMemory),
+        }
+    }
+    // More locations were read than any memory holds.
+    Err(NoMemory)
+}
+
+fn with_reads(alloc: Global, mut text: Vec<u8>, reads: u64) -> Result<Vec<u8>, NoMemory>
+    ensures { IfOk result (λ line. line.items ≡ text.items ++ codes " reads " ++ decimal reads) }
+{
+    text.extend_from_slice(b" reads ")?;
+    put_number(alloc, &mut text, reads)?;
+    Ok(text)
+}
+
+/// Reads the scan that was just begun to its end, and publishes it.
+fn scan_begun<T: Tree, R: Retain, V: Versions>(
+    alloc: Global,
+    machine: &mut Machine<T, R, V>,
+    caller: u64,
+) -> Result<Vec<u8>, NoMemory>
+    requires caller { caller < 16 }
+    requires content { is_some machine.old.content ≡ true }
+    requires faultless { T.most_faults ≡ 0 }
+    ensures printed { IfOk result (λ text.
+        IsPrintedOn V.version V.count machine.old machine.new caller text.items) }
+    ensures tells { is_some machine.new.content ≡ is_some machine.old.content }
+{
+    let reads = read_on(machine, caller)?;
+    let text = publish_line(alloc, machine, caller)?;
+    with_reads(alloc, text, reads)
+}
+
+fn scan_line<T: Tree, R: Retain, V: Versions>(
+    alloc: Global,
+    machine: &mut Machine<T, R, V>,
+    caller: u64,
+    path: &Path,
+) -> Result<Vec<u8>, NoMemory>
+    requires caller { caller < 16 }
+    requires content { is_some machine.old.content ≡ true }
+    requires faultless { T.most_faults ≡ 0 }
+    ensures printed { IfOk result (λ text. IsPrinted (Stands V.version V.count machine.old) (Stands V.version V.count machine.new)
+        (λ s. scanned_or s caller path.now (state.scan_of s caller)) text.items) }
+    ensures tells { is_some machine.new.content ≡ is_some machine.old.content }
+{
+    // The machine's word that what its tree tells is a world, and that it has sixteen scans.
+    let _case = machine.case();
+    match machine.begin(caller, path) {
+        Began::Version(_) => scan_begun(alloc, machine, caller),
+        Began::AlreadyOpen => word(alloc, b"open"),
+        Began::NoMemory => Err(NoMemory),
+    }
+}
+
 fn find_line<T: Tree, R: Retain, V: Versions>(
     alloc: Global,
     machine: &Machine<T, R, V>,
     path: &Path,
 ) -> Result<Vec<u8>, NoMemory>
-    ensures { IfOk result (λ text. IsPrinted V.version V.count machine.now machine.now
+    ensures { IfOk result (λ text. IsPrinted (Stands V.version V.count machine.now) (Stands V.version V.count machine.now)
         (λ s. by_call s (state.CallFind path.now)) text.items) }
 {
     found_text(alloc, machine.find(path))
+}
+
+fn kind_line<T: Tree, R: Retain, V: Versions>(
+    alloc: Global,
+    machine: &Machine<T, R, V>,
+    path: &Path,
+) -> Result<Vec<u8>, NoMemory>
+    ensures { IfOk result (λ text. IsPrinted (Stands V.version V.count machine.now) (Stands V.version V.count machine.now)
+        (λ s. by_call s (state.CallKind path.now)) text.items) }
+{
+    known_text(alloc, machine.kind(path))
+}
+
+fn version_line<T: Tree, R: Retain, V: Versions>(
+    alloc: Global,
+    machine: &Machine<T, R, V>,
+    path: &Path,
+) -> Result<Vec<u8>, NoMemory>
+    ensures { IfOk result (λ text. IsPrinted (Stands V.version V.count machine.now) (Stands V.version V.count machine.now)
+        (λ s. by_call s (state.CallVersion path.now)) text.items) }
+{
+    numbered(alloc, b"version ", machine.version(path))
 }
 
 /// Runs a command line, and gives what is printed for it, without its line end.
@@ -147,17 +272,22 @@ pub(crate) fn run_line<T: Tree, R: Retain, V: Versions + Drop>(
     requires line { CanRun line.now }
     requires ready { IsReady V.version V.count machine.old 1 }
     requires faultless { T.most_faults ≡ 0 }
-    ensures printed { IfOk result (λ text. IsPrinted V.version V.count machine.old machine.new
+    ensures printed { IfOk result (λ text. IsPrinted (Stands V.version V.count machine.old) (Stands V.version V.count machine.new)
         (λ s. printed s line.now) text.items) }
     ensures tells { is_some machine.new.content ≡ is_some machine.old.content }
 {
     let caller = line.caller;
     match &line.command {
         Command::Edit(edit) => edit_line(alloc, machine, edit),
+        Command::Event(path) => event_line(alloc, machine, path),
+        Command::Deliver => deliver_line(alloc, machine),
         Command::Settle => settle_line(alloc, machine),
         Command::Begin(path) => begin_line(alloc, machine, caller, path),
         Command::Read => read_line(alloc, machine, caller),
         Command::Publish => publish_line(alloc, machine, caller),
+        Command::Scan(path) => scan_line(alloc, machine, caller, path),
         Command::Find(path) => find_line(alloc, machine, path),
+        Command::KindOf(path) => kind_line(alloc, machine, path),
+        Command::VersionOf(path) => version_line(alloc, machine, path),
     }
 }

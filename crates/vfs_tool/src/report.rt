@@ -7,7 +7,8 @@ ghost use Rattle.std.specs.Fmt.{decimal};
 ghost use Rattle.hex.specs.Hex.{encode_lower};
 ghost use Rattle.vfs_model.specs.State as state;
 ghost use Rattle.snapshot_tree.specs.Meaning.{glance_of};
-ghost use Rattle.vfs_machine.specs.Steps.{edited_reply, began_reply, readed_reply, answer_reply};
+ghost use Rattle.world_model.specs.Meaning.{refusal_of};
+ghost use Rattle.vfs_machine.specs.Steps.{edited_reply, fit_reply, delivered_reply, began_reply, readed_reply, answer_reply};
 ghost use Rattle.vfs_tool.specs.Replies.{Tells, kind_text, digest_text, printed_path};
 
 use crate::spelling::put_spelled;
@@ -15,10 +16,11 @@ use case_order::NoMemory;
 use merkle_hash::Digest;
 use snapshot_tree::{Glance, Kind};
 use std::alloc::Global;
-use vfs_machine::{Answer, Began, Edited, Readed};
+use vfs_machine::{Answer, Began, Delivered, Edited, Readed};
 use vfs_path::Path;
+use world_model::{EditError, Fit};
 
-fn word(alloc: Global, word: &[u8]) -> Result<Vec<u8>, NoMemory>
+pub(crate) fn word(alloc: Global, word: &[u8]) -> Result<Vec<u8>, NoMemory>
     ensures { IfOk result (λ text. text.items ≡ word.now) }
 {
     Ok(Vec::from_slice(alloc, word)?)
@@ -33,7 +35,7 @@ pub(crate) fn numbered(alloc: Global, word: &[u8], n: u64) -> Result<Vec<u8>, No
     Ok(text)
 }
 
-fn put_number(alloc: Global, text: &mut Vec<u8>, n: u64) -> Result<(), NoMemory>
+pub(crate) fn put_number(alloc: Global, text: &mut Vec<u8>, n: u64) -> Result<(), NoMemory>
     ensures { OnOk result (text.new.items ≡ text.old.items ++ decimal n) }
 {
     let digits = n.to_string(alloc)?;
@@ -76,8 +78,41 @@ pub(crate) fn edited_text(alloc: Global, answer: Edited) -> Result<Vec<u8>, NoMe
     match answer {
         Edited::Done => word(alloc, b"ok"),
         Edited::Overflow => word(alloc, b"overflow"),
-        Edited::Refused(refusal) => numbered(alloc, b"refused ", refusal.number()),
+        Edited::Refused(refusal) => refused_text(alloc, refusal),
         Edited::NoMemory => Err(NoMemory),
+    }
+}
+
+/// The text of a refusal of an edit.
+pub(crate) fn refused_text(alloc: Global, refusal: EditError) -> Result<Vec<u8>, NoMemory>
+    ensures { IfOk result (λ text. Tells text.items (state.Refused (refusal_of refusal))) }
+{
+    numbered(alloc, b"refused ", refusal.number())
+}
+
+/// The text of the answer to an event.
+pub(crate) fn fit_text(alloc: Global, answer: Fit) -> Result<Vec<u8>, NoMemory>
+    ensures { IfOk result (λ text. Tells text.items (fit_reply answer)) }
+{
+    match answer {
+        Fit::Fits => word(alloc, b"queued"),
+        Fit::Overflow => word(alloc, b"overflow"),
+    }
+}
+
+/// The text of the answer to a delivery.
+pub(crate) fn delivered_text(alloc: Global, answer: &Delivered) -> Result<Vec<u8>, NoMemory>
+    ensures { IfOk result (λ text. Tells text.items (delivered_reply answer.now)) }
+{
+    match answer {
+        Delivered::Event(path) => {
+            let mut text = Vec::from_slice(alloc, b"delivered ")?;
+            put_path(alloc, &mut text, path)?;
+            Ok(text)
+        }
+        Delivered::Cleared => word(alloc, b"cleared"),
+        Delivered::Nothing => word(alloc, b"nothing"),
+        Delivered::NoMemory => Err(NoMemory),
     }
 }
 
@@ -141,4 +176,14 @@ pub(crate) fn found_text(alloc: Global, found: Option<Glance>) -> Result<Vec<u8>
     let mut text = Vec::from_slice(alloc, kind_word(glance.kind))?;
     put_digest(&mut text, glance.digest)?;
     Ok(text)
+}
+
+/// The text of a kind, where it is known.
+pub(crate) fn known_text(alloc: Global, kind: Option<Kind>) -> Result<Vec<u8>, NoMemory>
+    ensures { IfOk result (λ text. Tells text.items (state.KindIs kind)) }
+{
+    match kind {
+        None => word(alloc, b"unknown"),
+        Some(kind) => word(alloc, kind_word(kind)),
+    }
 }

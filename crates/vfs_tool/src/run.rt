@@ -8,16 +8,16 @@ ghost use Rattle.script_reader.specs.declared.script.TextKind.TheVariants.{Repla
 ghost use Rattle.script_reader.specs.Grammar.{FirstBad};
 ghost use Rattle.vfs_model.specs.Faults.{Rose};
 ghost use Rattle.vfs_tool.specs.Input.{TakesAll, TakesSome, limit};
-ghost use Rattle.vfs_tool.specs.Output.{Breaks};
-ghost use Rattle.vfs_tool.specs.Printing.{CanRun};
-ghost use Rattle.vfs_tool.specs.Report.{lines_of, report_of};
+ghost use Rattle.vfs_tool.specs.Output.{Breaks, BreaksOff};
+ghost use Rattle.vfs_tool.specs.Printing.{CanRun, RunsAll, IsOpeningOver};
+ghost use Rattle.vfs_tool.specs.Report.{printed, lines_of, report_of};
 ghost use Rattle.vfs_tool.specs.Run.{IsReplay, PutsReport, PutsPrefix, PutsLines, Reports, ReportsPrefix, ReportsLines, Answers};
 
 use crate::input::{Stop, take_all};
-use crate::output::{Break, run_lines};
+use crate::output::{Break, put_openings, run_lines};
 use crate::status::Status;
 use case_order::Case;
-use script_reader::{Script, ScriptError, read_script};
+use script_reader::{Line, Script, ScriptError, read_script};
 use snapshot_hierarchy::FlatRetain;
 use std::alloc::Global;
 use version_hierarchy::FlatVersions;
@@ -37,6 +37,35 @@ fn is_replay(words: &[String]) -> bool
     }
 }
 
+/// Runs the command lines over the tree, with nothing pending and nothing retained.
+fn run_commands<K: Sink>(
+    alloc: Global,
+    tree: MemTree,
+    lines: &[Line],
+    sink: &mut K,
+) -> Result<(), Break>
+    requires lines { Each CanRun lines.now }
+    requires few { length lines.now < 2 ^ 61 }
+    requires case { tree.case ≡ Case.Sensitive }
+    ensures ok { OnOk result (RunsAll printed
+        (IsOpeningOver tree) (λ _. Unit {0}) lines.now (K.written sink.old) (K.written sink.new)) }
+    ensures err { IfErr result (λ e. BreaksOff printed (IsOpeningOver tree) lines.now
+        (K.faults sink.old) (K.faults sink.new) (K.written sink.old) (K.written sink.new) e) }
+    ensures later { K.faults sink.old ≤ K.faults sink.new }
+{
+    let made = Machine::make(
+        alloc,
+        tree,
+        FlatRetain::new(alloc, Case::Sensitive),
+        FlatVersions::new(alloc, Case::Sensitive),
+        QUEUE,
+    );
+    let Ok(mut machine) = made else {
+        return Err(Break::NoMemory);
+    };
+    run_lines(alloc, &mut machine, lines, sink)
+}
+
 /// Runs the script over an empty tree.
 fn run_script<K: Sink>(alloc: Global, script: &Script, sink: &mut K) -> Result<(), Break>
     requires lines { Each CanRun script.now.lines }
@@ -47,17 +76,9 @@ fn run_script<K: Sink>(alloc: Global, script: &Script, sink: &mut K) -> Result<(
         (K.written sink.old) (K.written sink.new) (lines_of script.now) e) }
     ensures later { K.faults sink.old ≤ K.faults sink.new }
 {
-    let made = Machine::make(
-        alloc,
-        MemTree::new(alloc, Case::Sensitive),
-        FlatRetain::new(alloc, Case::Sensitive),
-        FlatVersions::new(alloc, Case::Sensitive),
-        QUEUE,
-    );
-    let Ok(mut machine) = made else {
-        return Err(Break::NoMemory);
-    };
-    run_lines(alloc, &mut machine, script.lines.as_slice(), sink)
+    let mut tree = MemTree::new(alloc, Case::Sensitive);
+    put_openings(alloc, &mut tree, script.opening.as_slice(), sink)?;
+    run_commands(alloc, tree, script.lines.as_slice(), sink)
 }
 
 /// Runs the script of a text.
@@ -90,7 +111,7 @@ fn run_text<K: Sink>(alloc: Global, text: &[u8], sink: &mut K) -> Status
 }
 
 /// Does what the words say: `replay` takes a script from the source, runs it over an empty tree,
-/// and puts an output line for each of its command lines.
+/// and puts an output line for each of its opening and command lines.
 ///
 /// Takes at most 65,536 bytes at a time, and stops at the first byte past 16,777,216. Puts each
 /// output line by a call of its own. Waits for nobody.

@@ -4,6 +4,7 @@ use crate::run::run;
 use crate::status::Status;
 use script_reader::{BadLine, Cause};
 use std::alloc::Global;
+use std::process::Abort;
 use std::test::Fail;
 use vfs_io::{MemSink, MemSource, Source};
 
@@ -56,22 +57,22 @@ const STORED: &[u8] =
 const STORED_REPORT: &[u8] =
     b"ok\nsettled 1\nversion 1\nsaw /f file left 0\ndone\nstored\nfile 900150983cd24fb0d6963f7d28e17f72\n";
 
+/// Runs each script, and compares what is written.
+fn assert_reports(rt: &impl Abort, alloc: Global, table: &[(&[u8], &[u8])]) -> Result<(), Fail> {
+    for (script, report) in table {
+        let ended = run_with(alloc, &["replay"], script, &[], &[])?;
+        assert_eq!(rt; ended.status, Status::Done);
+        assert_eq!(rt; ended.written.as_slice(), *report);
+    }
+    Ok(())
+}
+
 #[test]
 fn reports_on_scripts(rt: HostRuntime) -> Result<(), Fail> {
     let table = [
         (b"".as_slice(), b"".as_slice()),
         (b"# a note\n\n".as_slice(), b"".as_slice()),
         (STORED, STORED_REPORT),
-        // An event that comes after the publication.
-        (
-            b"0 write /f abc\n0 settle\n0 begin /f\n0 read\n1 write /f abd\n0 publish\n0 find /f\n1 settle\n0 find /f\n".as_slice(),
-            b"ok\nsettled 1\nversion 1\nsaw /f file left 0\nok\nstored\nfile 900150983cd24fb0d6963f7d28e17f72\nsettled 1\nunknown\n".as_slice(),
-        ),
-        // The event comes before the publication.
-        (
-            b"0 write /f abc\n0 settle\n0 begin /f\n0 read\n1 write /f abd\n1 settle\n0 publish\n0 find /f\n".as_slice(),
-            b"ok\nsettled 1\nversion 1\nsaw /f file left 0\nok\nsettled 1\nstale 2\nunknown\n".as_slice(),
-        ),
         // What is written as an escape.
         (
             b"0 write /a%20b %00\n0 settle\n0 begin /a%20b\n0 read\n0 read\n0 publish\n0 find /a%20b\n".as_slice(),
@@ -83,10 +84,107 @@ fn reports_on_scripts(rt: HostRuntime) -> Result<(), Fail> {
             b"refused 1\nrefused 2\nnoscan\nnoscan\nversion 0\nopen\nunfinished 1\nsaw /m%7f missing left 0\nstored\nmissing\nsettled 0\n".as_slice(),
         ),
     ];
-    for (script, report) in table {
-        let ended = run_with(rt.alloc(), &["replay"], script, &[], &[])?;
-        assert_eq!(rt; ended.status, Status::Done);
-        assert_eq!(rt; ended.written.as_slice(), report);
+    assert_reports(&rt, rt.alloc(), &table)
+}
+
+#[test]
+fn publishes_unless_something_related_was_invalidated(rt: HostRuntime) -> Result<(), Fail> {
+    let table = [
+        // The event is delivered after the publication, and before it.
+        (
+            b"0 write /f abc\n0 settle\n0 begin /f\n0 read\n1 write /f abd\n0 publish\n0 find /f\n1 deliver\n0 find /f\n".as_slice(),
+            b"ok\nsettled 1\nversion 1\nsaw /f file left 0\nok\nstored\nfile 900150983cd24fb0d6963f7d28e17f72\ndelivered /f\nunknown\n".as_slice(),
+        ),
+        (
+            b"0 write /f abc\n0 settle\n0 begin /f\n0 read\n1 write /f abd\n1 deliver\n0 publish\n0 find /f\n".as_slice(),
+            b"ok\nsettled 1\nversion 1\nsaw /f file left 0\nok\ndelivered /f\nstale 2\nunknown\n".as_slice(),
+        ),
+        // An ancestor, and a descendant.
+        (
+            b"set dir /a\nset file /a/b abc\n0 begin /a/b\n0 read\n1 event /a\n1 deliver\n0 publish\n".as_slice(),
+            b"ok\nok\nversion 0\nsaw /a/b file left 0\nqueued\ndelivered /a\nstale 1\n".as_slice(),
+        ),
+        (
+            b"set dir /a\nset dir /a/b\nset file /a/b/c abc\n0 begin /a/b\n0 read\n0 read\n1 event /a/b/c\n1 deliver\n0 publish\n".as_slice(),
+            b"ok\nok\nok\nversion 0\nsaw /a/b dir left 1\nsaw /a/b/c file left 0\nqueued\ndelivered /a/b/c\nstale 1\n".as_slice(),
+        ),
+        // A sibling, and a path whose text begins the same.
+        (
+            b"set dir /a\nset dir /a/b\nset file /a/b/c abc\n0 begin /a/b\n0 read\n0 read\n1 event /a/x\n1 event /ab\n1 settle\n0 publish\n0 find /a/b/c\n0 version /a/b\n0 version /a\n0 version /\n".as_slice(),
+            b"ok\nok\nok\nversion 0\nsaw /a/b dir left 1\nsaw /a/b/c file left 0\nqueued\nqueued\nsettled 2\nstored\nfile 900150983cd24fb0d6963f7d28e17f72\nversion 0\nversion 1\nversion 2\n".as_slice(),
+        ),
+        // The root, with an event and without.
+        (
+            b"0 begin /\n0 read\n1 event /q\n1 deliver\n0 publish\n".as_slice(),
+            b"version 0\nsaw / dir left 0\nqueued\ndelivered /q\nstale 1\n".as_slice(),
+        ),
+        (
+            b"0 begin /\n0 read\n0 publish\n0 find /\n".as_slice(),
+            b"version 0\nsaw / dir left 0\nstored\ndir f623e75af30e62bbd73d6df5b50bb7b5\n".as_slice(),
+        ),
+    ];
+    assert_reports(&rt, rt.alloc(), &table)
+}
+
+#[test]
+fn forgets_what_an_event_has_to_do_with(rt: HostRuntime) -> Result<(), Fail> {
+    let table = [
+        // What is missing.
+        (
+            b"0 begin /m/n/o\n0 read\n0 publish\n0 find /m/n/o/p\n1 mkdir /m\n1 deliver\n0 find /m/n/o\n".as_slice(),
+            b"version 0\nsaw /m/n/o missing left 0\nstored\nmissing\nok\ndelivered /m\nunknown\n".as_slice(),
+        ),
+        // A file is removed between two reads, and its sibling stays.
+        (
+            b"set dir /d\nset file /d/a a\nset file /d/b b\n0 begin /d\n0 read\n0 read\n1 remove /d/a\n0 read\n0 publish\n0 find /d/a\n1 deliver\n0 find /d/a\n0 find /d/b\n0 find /d\n0 kind /d\n".as_slice(),
+            b"ok\nok\nok\nversion 0\nsaw /d dir left 2\nsaw /d/a file left 1\nok\nsaw /d/b file left 0\nstored\nfile 0cc175b9c0f1b6a831c399e269772661\ndelivered /d/a\nunknown\nfile 92eb5ffee6ae2fec3ad71c777531578f\nunknown\ndir\n".as_slice(),
+        ),
+        // An event below a file.
+        (
+            b"set file /f abc\n0 scan /f\n1 event /f/x\n1 deliver\n0 find /f\n0 kind /\n".as_slice(),
+            b"ok\nstored reads 1\nqueued\ndelivered /f/x\nunknown\ndir\n".as_slice(),
+        ),
+        // What is retained above, and what a publication above replaces.
+        (
+            b"set dir /d\nset file /d/a a\n0 scan /d\n0 scan /d/a\n0 find /d/a\n".as_slice(),
+            b"ok\nok\nstored reads 2\ncovered reads 1\nfile 0cc175b9c0f1b6a831c399e269772661\n".as_slice(),
+        ),
+        (
+            b"set dir /d\nset file /d/a a\n0 scan /d/a\n0 scan /d\n0 find /d\n".as_slice(),
+            b"ok\nok\nstored reads 1\nstored reads 2\ndir d82cdc9dc4d40917449769aa7211a458\n".as_slice(),
+        ),
+        // A scan that is open already, and one of what is missing.
+        (
+            b"3 begin /m\n3 scan /d\n4 scan /m\n4 kind /m\n4 kind /\n4 deliver\n".as_slice(),
+            b"version 0\nopen\nstored reads 1\nmissing\nunknown\nnothing\n".as_slice(),
+        ),
+    ];
+    assert_reports(&rt, rt.alloc(), &table)
+}
+
+#[test]
+fn edits_the_tree_or_refuses(rt: HostRuntime) -> Result<(), Fail> {
+    let alloc = rt.alloc();
+    let edits = [
+        ("write / a", "refused 1"),
+        ("write /n/x a", "refused 2"),
+        ("write /f/x/y a", "refused 2"),
+        ("write /f/x a", "refused 3"),
+        ("write /d a", "refused 4"),
+        ("mkdir /f", "refused 4"),
+        ("remove /n", "refused 5"),
+        ("move /d /d/e", "refused 6"),
+        ("move /d /f", "refused 4"),
+        ("move /n /n/x", "refused 5"),
+        ("move /d /e", "ok"),
+        ("write /f b", "ok"),
+        ("write /f", "ok"),
+    ];
+    for (edit, answer) in edits {
+        let script = format!(in alloc; "set file /f a\nset dir /d\nset file /d/x a\n0 {edit}\n")?;
+        let report = format!(in alloc; "ok\nok\nok\n{answer}\n")?;
+        let ended = run_with(alloc, &["replay"], script.as_bytes(), &[], &[])?;
+        assert_eq!(rt; ended.written.as_slice(), report.as_bytes(), "at {edit}");
     }
     Ok(())
 }
@@ -104,8 +202,8 @@ fn overflows_its_queue(rt: HostRuntime) -> Result<(), Fail> {
             b"overflow\n".as_slice()
         })?;
     }
-    script.extend_from_slice(b"0 settle\n")?;
-    report.extend_from_slice(b"settled 1\n")?;
+    script.extend_from_slice(b"0 deliver\n0 deliver\n")?;
+    report.extend_from_slice(b"cleared\nnothing\n")?;
     let ended = run_with(alloc, &["replay"], script.as_slice(), &[], &[])?;
     assert_eq!(rt; ended.status, Status::Done);
     assert!(rt; ended.written.as_slice() == report.as_slice());

@@ -1,1 +1,6 @@
-pub mod FileLemmas
+pub mod SeekLemmas
+pub mod TreeLemmas
+pub mod EntriesLemmas
+pub mod EditedLemmas
+pub mod RefusalLemmas
+pub mod LookLemmas

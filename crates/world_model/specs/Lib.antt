@@ -2,4 +2,9 @@ pub mod Told
 pub mod Meaning
 pub mod Front
 pub mod Held
-pub mod Files
+pub mod FileTree
+pub mod TreeCode
+pub mod Nodes
+pub mod Found
+pub mod Falls
+pub mod Refused

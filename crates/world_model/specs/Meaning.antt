@@ -1,31 +1,36 @@
 -- What the types of the code stand for.
 use Rattle.std.specs.Prelude.{◌≡◌, ℕ, List, [], ◌∷◌, Option, Some, None}
 use Rattle.vfs_model.specs.Paths.{Path}
-use Rattle.vfs_model.specs.Edit.{Edit, Write, Refusal, Root, NoParent, NotDir, Exists, Absent, IntoItself, TooDeep, Crowded, ReadOnly}
-use Rattle.vfs_model.specs.Scanning.{Look, SeesNothing, SeesFile}
+use Rattle.vfs_model.specs.Edit.{Edit, Write, Mkdir, Remove, Move, Refusal, Root, NoParent, NotDir, Exists, Absent, IntoItself, TooDeep, Crowded, ReadOnly}
+use Rattle.vfs_model.specs.Scanning.{Look, SeesNothing, SeesFile, SeesDir}
 use Rattle.world_model.specs.declared.edit.Edit.{Edit as EditValue}
-use Rattle.world_model.specs.declared.edit.Edit.TheVariants.{Write as WriteValue}
+use Rattle.world_model.specs.declared.edit.Edit.TheVariants as edit_value
 use Rattle.world_model.specs.declared.edit.EditError.{EditError}
 use Rattle.world_model.specs.declared.edit.EditError.TheVariants as error
 use Rattle.world_model.specs.declared.edit.Events.{Events}
-use Rattle.world_model.specs.declared.edit.Events.TheVariants.{One}
+use Rattle.world_model.specs.declared.edit.Events.TheVariants.{One, Two}
 use Rattle.world_model.specs.declared.edit.ApplyError.{ApplyError}
 use Rattle.world_model.specs.declared.edit.ApplyError.TheVariants as apply_error
 use Rattle.world_model.specs.declared.entry.Entry.{Entry}
-use Rattle.world_model.specs.declared.entry.Entry.TheVariants.{Missing, File}
+use Rattle.world_model.specs.declared.entry.Entry.TheVariants.{Missing, File, Dir}
 
 -- the edit
 abbrev pub edit_of : EditValue → Edit
-edit_of (WriteValue p bytes) = Write p bytes
+edit_of (edit_value.Write p bytes) = Write p bytes
+edit_of (edit_value.Mkdir p) = Mkdir p
+edit_of (edit_value.Remove p) = Remove p
+edit_of (edit_value.Move p q) = Move p q
 
 -- the paths, in order
 abbrev pub events_of : Events → List Path
 events_of (One p) = p ∷ []
+events_of (Two p q) = p ∷ q ∷ []
 
 -- what a look saw
 abbrev pub look_seen : Entry → Look
 look_seen Missing = SeesNothing
 look_seen (File bytes) = SeesFile bytes
+look_seen (Dir names) = SeesDir names
 
 -- the refusal
 abbrev pub refusal_of : EditError → Refusal

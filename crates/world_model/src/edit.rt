@@ -14,19 +14,28 @@ use vfs_path::Path;
 pub enum Edit {
     /// Makes the file at the path, or replaces its bytes; a name that is there keeps its spelling.
     Write(Path, Bytes),
+    /// Makes an empty directory at the path.
+    Mkdir(Path),
+    /// Takes away what is at the path, and all below it.
+    Remove(Path),
+    /// Moves what is at the first path, with all below it, to the second, whose last name gives it
+    /// its spelling.
+    Move(Path, Path),
 }
 
 /// The paths that tell of an edit that was done.
 #[derive(Debug, Drop)]
 pub enum Events {
-    /// The path of a write.
+    /// The path of a write, of a new directory, or of a removal.
     One(Path),
+    /// From where and to where something was moved.
+    Two(Path, Path),
 }
 
 /// Why a tree refuses an edit.
 #[derive(Clone, Copy, Debug, PartialEq, Eq, Error)]
 pub enum EditError {
-    /// The path is the root.
+    /// A path of the edit is the root.
     #[error("the root cannot be edited")]
     Root,
     /// The parent of the path to be made is missing.

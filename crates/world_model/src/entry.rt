@@ -5,6 +5,7 @@ ghost use Rattle.world_model.specs.declared.entry.LookError.TheVariants as look_
 
 use case_order::NoMemory;
 use merkle_hash::Bytes;
+use vfs_path::Names;
 
 /// What a look at a location gives.
 #[derive(Debug, Drop)]
@@ -13,6 +14,8 @@ pub enum Entry {
     Missing,
     /// A file with these bytes.
     File(Bytes),
+    /// A directory with these names in it, in order under the tree's case, no two the same.
+    Dir(Names),
 }
 
 /// Why a look gave nothing.

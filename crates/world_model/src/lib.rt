@@ -1,12 +1,14 @@
 //! Trees of files, their edits, and the queue of events that tell of edits.
 #![tactic(auto)]
 
+mod apply;
 mod edit;
 mod entry;
 mod intake;
 mod mem_tree;
-#[cfg(test)]
-mod tests;
+mod names;
+mod node;
+mod refuse;
 mod tree;
 
 pub use edit::{ApplyError, Edit, EditError, Events};
@@ -14,3 +16,6 @@ pub use entry::{Entry, LookError};
 pub use intake::{Fit, Front, Intake};
 pub use mem_tree::MemTree;
 pub use tree::Tree;
+
+#[cfg(test)]
+mod tests;

@@ -1,56 +1,48 @@
 //! The tree in memory.
 
-ghost use Rattle.std.specs.Prelude.{◌≡◌, ◌<◌, ℕ, List, [], ◌∷◌, None, Some, IfOk, IfErr, OnOk, OnErr, length};
-ghost use Rattle.std.specs.List.{position};
+ghost use Rattle.std.specs.Prelude.{◌≡◌, [], None, IfOk, IfErr, OnOk, OnErr, length};
 ghost use Rattle.vfs_model.specs.Paths.{place};
-ghost use Rattle.vfs_model.specs.World.{IsWorld};
+ghost use Rattle.vfs_model.specs.World.{IsWorld, IsSameBelow};
 ghost use Rattle.vfs_model.specs.Edit as edits;
 ghost use Rattle.vfs_model.specs.Scanning as scanning;
+ghost use Rattle.vfs_model.specs.Sound.{IsLook};
 ghost use Rattle.vfs_model.specs.History.{empty_world};
-ghost use Rattle.world_model.specs.Meaning.{edit_of, events_of, look_seen, refusal_of, IsRefusal};
+ghost use Rattle.world_model.specs.FileTree.{world_of, IsTree};
+ghost use Rattle.world_model.specs.Meaning.{edit_of, events_of, look_seen, IsRefusal};
 ghost use Rattle.world_model.specs.declared.entry.LookError.TheVariants as look_error;
-ghost use Rattle.world_model.specs.Files.{world_of, is_named};
 
-use crate::edit::{ApplyError, Edit, EditError, Events};
+use crate::apply::edited;
+use crate::edit::{ApplyError, Edit, Events};
 use crate::entry::{Entry, LookError};
+use crate::node::{Found, Listing};
+use crate::refuse::check;
 use crate::tree::Tree;
-use case_order::{Case, NoMemory, Share, same};
-use merkle_hash::Bytes;
+use case_order::{Case, NoMemory, Share};
 use std::alloc::Global;
 use std::marker::Model;
 use vfs_path::{Name, Path};
 
-/// How many names a directory has at most.
-const MAX_NAMES: usize = 4096;
-
-/// A file right below the root.
-#[derive(Drop)]
-struct MemFile {
-    name: Name,
-    bytes: Bytes,
-}
-
 /// A tree in memory, which tells its content and has no faults.
 ///
-/// Contracts see its case and its world. Its files stand right below the root, at most 4,096.
+/// Contracts see its case and its world. An edit makes the directories on its way anew and shares
+/// everything else, so that want of memory leaves the tree as it was.
 #[derive(Drop)]
 pub struct MemTree {
+    alloc: Global,
     case: Case,
-    files: Vec<MemFile>,
+    root: Listing,
 }
 
 impl Model for MemTree {
-    ghost use Rattle.vfs_model.specs.World.{IsWorld};
     ghost use Rattle.world_model.specs.Held.{Held};
 
     ghost Value = { Held };
 
-    ghost use Rattle.world_model.specs.declared.entry.LookError.TheVariants as look_error;
-    ghost use Rattle.world_model.specs.Files.{world_of};
+    ghost use Rattle.world_model.specs.FileTree.{world_of, IsTree};
 
-    ghost view = { λ t. record { case = t.case; world = world_of t.files.items } };
+    ghost view = { λ t. record { case = t.case; world = world_of t.root } };
 
-    ghost invariant = { λ t. IsWorld t.case (world_of t.files.items) };
+    ghost invariant = { λ t. IsTree t.case t.root };
 }
 
 impl MemTree {
@@ -59,24 +51,10 @@ impl MemTree {
         ensures { result ≡ record { case = case; world = empty_world } }
     {
         MemTree {
+            alloc,
             case,
-            files: Vec::new(alloc),
+            root: Listing::empty(),
         }
-    }
-
-    /// Writes the file, and gives the event of the write.
-    fn write(&mut self, path: &Path, bytes: &Bytes) -> Result<Path, ApplyError>
-        ensures case { self.new.case ≡ self.old.case }
-        ensures event { IfOk result (λ event. event ≡ path.now) }
-        ensures allowed { OnOk result (edits.refusal self.old.case self.old.world (edits.Write path.now bytes.now) ≡ None) }
-        ensures written { OnOk result (self.new.world ≡ edits.apply self.old.case self.old.world (edits.Write path.now bytes.now)) }
-        ensures refused { IfErr result (IsRefusal (edits.refusal self.old.case self.old.world (edits.Write path.now bytes.now))) }
-        ensures kept { OnErr result (self.new ≡ self.old) }
-    {
-        let name = write_target(self.case, &self.files, path.as_slice())?;
-        let event = path.share()?;
-        put_file(self.case, &mut self.files, name, bytes)?;
-        Ok(event)
     }
 }
 
@@ -94,16 +72,18 @@ impl Tree for MemTree {
         self.case
     }
 
-    /// What is at the path, below the root. The tree stays.
+    /// What is at the path. The tree stays.
     ///
     /// The only error is `NoMemory`, want of memory.
     fn look(&mut self, path: &Path) -> Result<Entry, LookError>
-        requires { 0 < length path.now }
         ensures tree { self.new ≡ self.old }
-        ensures seen { IfOk result (λ entry. look_seen entry ≡ scanning.look self.old.case self.old.world (place self.old.case path.now)) }
+        ensures shape { IfOk result (λ entry. IsLook self.old.case (length path.now) (look_seen entry)) }
+        ensures seen { IfOk result (λ entry. look_seen entry
+            ≡ scanning.look self.old.case self.old.world (place self.old.case path.now)) }
         ensures failed { IfErr result (λ e. e ≡ look_error.NoMemory) }
     {
-        Ok(look_at(self.case, &self.files, path.as_slice())?)
+        let entry = look_at(self.alloc, self.case, &self.root, path.as_slice())?;
+        Ok(entry)
     }
 
     /// Does the edit, and gives the paths that tell of it.
@@ -113,85 +93,70 @@ impl Tree for MemTree {
     fn apply(&mut self, edit: &Edit) -> Result<Events, ApplyError>
         ensures case { self.new.case ≡ self.old.case }
         ensures events { IfOk result (λ events. events_of events ≡ edits.events (edit_of edit.now)) }
-        ensures allowed { OnOk result (edits.refusal self.old.case self.old.world (edit_of edit.now) ≡ None) }
-        ensures applied { OnOk result (self.new.world ≡ edits.apply self.old.case self.old.world (edit_of edit.now)) }
-        ensures refused { IfErr result (IsRefusal (edits.refusal self.old.case self.old.world (edit_of edit.now))) }
+        ensures allowed { OnOk result
+            (edits.refusal self.old.case self.old.world (edit_of edit.now) ≡ None) }
+        ensures applied { OnOk result (IsSameBelow self.old.case
+            (edits.apply self.old.case self.old.world (edit_of edit.now)) [] self.new.world []) }
+        ensures refused { IfErr result
+            (IsRefusal (edits.refusal self.old.case self.old.world (edit_of edit.now))) }
         ensures kept { OnErr result (self.new ≡ self.old) }
     {
-        match edit {
-            Edit::Write(path, bytes) => Ok(Events::One(self.write(path, bytes)?)),
+        let (root, events) = done(self.alloc, self.case, &self.root, edit)?;
+        self.root = root;
+        Ok(events)
+    }
+}
+
+/// What is at the place that these names lead to.
+fn look_at(alloc: Global, case: Case, root: &Listing, names: &[Name]) -> Result<Entry, NoMemory>
+    requires { IsTree case root.now }
+    ensures { IfOk result (λ entry. look_seen entry
+        ≡ scanning.look case (world_of root.now) (place case names.now)) }
+{
+    match root.at(case, names) {
+        Found::Missing => Ok(Entry::Missing),
+        Found::File(bytes) => {
+            let bytes = bytes.share()?;
+            Ok(Entry::File(bytes))
+        }
+        Found::Dir(directory) => {
+            let names = directory.names(alloc)?;
+            Ok(Entry::Dir(names))
         }
     }
 }
 
-/// The index of the file with this name under the case.
-fn find(case: Case, files: &[MemFile], name: &Name) -> Option<usize>
-    ensures { result ≡ position (is_named case name.now) files.now }
-{
-    files
-        .iter()
-        .position(|file| same(case, file.name.as_bytes(), name.as_bytes()))
-}
-
-/// What is at the path with these names, below the root.
-fn look_at(case: Case, files: &[MemFile], names: &[Name]) -> Result<Entry, NoMemory>
-    requires { 0 < length names.now }
-    ensures { IfOk result (λ entry. look_seen entry ≡ scanning.look case (world_of files.now) (place case names.now)) }
-{
-    match names {
-        [] => unreachable!(),
-        [name] => match find(case, files, name) {
-            None => Ok(Entry::Missing),
-            Some(i) => Ok(Entry::File(files[i].bytes.share()?)),
-        },
-        [_, _, ..] => Ok(Entry::Missing),
-    }
-}
-
-/// The name that a write to the path with these names goes to, or its refusal.
-fn write_target<'a>(case: Case, files: &[MemFile], names: &'a [Name]) -> Result<&'a Name, EditError>
-    requires { IsWorld case (world_of files.now) }
-    ensures name { IfOk result (λ name. names.now ≡ name.now ∷ []) }
-    ensures allowed { IfOk result (λ _. (bytes : List ℕ) → edits.refusal case (world_of files.now) (edits.Write names.now bytes) ≡ None) }
-    ensures refused { IfErr result (λ e. (bytes : List ℕ) → edits.refusal case (world_of files.now) (edits.Write names.now bytes) ≡ Some (refusal_of e)) }
-{
-    match names {
-        [] => Err(EditError::Root),
-        [name] => {
-            if files.len() < MAX_NAMES {
-                return Ok(name);
-            }
-            match find(case, files, name) {
-                None => Err(EditError::Crowded),
-                Some(_) => Ok(name),
-            }
-        }
-        [parent, _] => match find(case, files, parent) {
-            None => Err(EditError::NoParent),
-            Some(_) => Err(EditError::NotDir),
-        },
-        [_, _, _, ..] => Err(EditError::NoParent),
-    }
-}
-
-/// Replaces the bytes of the file with this name, or adds the file.
-fn put_file(
+/// The tree after the edit, and the paths that tell of it.
+fn done(
+    alloc: Global,
     case: Case,
-    files: &mut Vec<MemFile>,
-    name: &Name,
-    bytes: &Bytes,
-) -> Result<(), NoMemory>
-    requires { IsWorld case (world_of files.old.items) }
-    ensures written { OnOk result (world_of files.new.items ≡ edits.apply case (world_of files.old.items) (edits.Write (name.now ∷ []) bytes.now)) }
-    ensures kept { OnErr result (files.new.items ≡ files.old.items) }
+    root: &Listing,
+    edit: &Edit,
+) -> Result<(Listing, Events), ApplyError>
+    requires { IsTree case root.now }
+    ensures events { IfOk result (λ done. events_of done.1 ≡ edits.events (edit_of edit.now)) }
+    ensures allowed { OnOk result (edits.refusal case (world_of root.now) (edit_of edit.now) ≡ None) }
+    ensures tree { IfOk result (λ done. IsTree case done.0) }
+    ensures applied { IfOk result (λ done. IsSameBelow case
+        (edits.apply case (world_of root.now) (edit_of edit.now)) [] (world_of done.0) []) }
+    ensures refused { IfErr result (IsRefusal (edits.refusal case (world_of root.now) (edit_of edit.now))) }
 {
-    let bytes = bytes.share()?;
-    match find(case, files, name) {
-        Some(i) => files[i].bytes = bytes,
-        None => {
-            let name = name.share()?;
-            files.push(MemFile { name, bytes })?;
-        }
+    check(case, root, edit)?;
+    let events = events_of(edit)?;
+    let root = edited(alloc, case, root, edit)?;
+    Ok((root, events))
+}
+
+/// The paths that tell of an edit.
+///
+/// The only error is want of memory.
+fn events_of(edit: &Edit) -> Result<Events, NoMemory>
+    ensures { IfOk result (λ events. events_of events ≡ edits.events (edit_of edit.now)) }
+{
+    match edit {
+        Edit::Write(path, _) => Ok(Events::One(path.share()?)),
+        Edit::Mkdir(path) => Ok(Events::One(path.share()?)),
+        Edit::Remove(path) => Ok(Events::One(path.share()?)),
+        Edit::Move(from, to) => Ok(Events::Two(from.share()?, to.share()?)),
     }
-    Ok(())
 }

@@ -1,13 +1,11 @@
-//! Tests: the worked refusals of a write, what a look gives after it, and a queue of one event.
+//! Tests: tables of edits and looks, each line with its answer, and a queue of one event.
 
-ghost use Rattle.std.specs.Prelude.{◌<◌, length};
-
-use crate::{ApplyError, Edit, Entry, Events, Fit, Front, Intake, LookError, MemTree, Tree};
+use crate::{ApplyError, Edit, Entry, Fit, Front, Intake, MemTree, Tree};
 use case_order::{Case, NoMemory};
 use merkle_hash::Bytes;
-use std::alloc::Global;
+use std::alloc::{AllocError, Global};
 use std::test::Fail;
-use vfs_path::Path;
+use vfs_path::{Name, Path};
 
 fn bytes(alloc: Global, text: &str) -> Result<Bytes, NoMemory> {
     let items = Vec::from_slice(alloc, text.as_bytes())?;
@@ -21,71 +19,157 @@ fn path(alloc: Global, text: &str) -> Result<Path, Fail> {
     Ok(Path::parse(alloc, text.as_bytes())?)
 }
 
-/// The number of the refusal, and 0 where the write is done.
-fn refusal_of_write<T: Tree>(
-    tree: &mut T,
-    alloc: Global,
-    at: &str,
-    text: &str,
-) -> Result<u64, Fail> {
-    let edit = Edit::Write(path(alloc, at)?, bytes(alloc, text)?);
-    match tree.apply(&edit) {
-        Ok(Events::One(_)) => Ok(0),
-        Err(ApplyError::Refused(refusal)) => Ok(refusal.number()),
+/// `done`, or the number of the refusal.
+fn after_edit<T: Tree>(alloc: Global, tree: &mut T, edit: &Edit) -> Result<String, Fail> {
+    match tree.apply(edit) {
+        Ok(_) => Ok(String::from_str(alloc, "done")?),
+        Err(ApplyError::Refused(refusal)) => Ok(format!(in alloc; "{}", refusal.number())?),
         Err(ApplyError::NoMemory) => Err(Fail::from(NoMemory)),
     }
 }
 
-/// What is at the path, below the root.
-fn look_at<T: Tree>(tree: &mut T, path: &Path) -> Result<Entry, LookError>
-    requires { 0 < length path.now }
-{
-    tree.look(path)
+fn add_words(out: &mut Vec<u8>, names: &[Name]) -> Result<(), AllocError> {
+    for name in names {
+        out.push(b' ')?;
+        out.extend_from_slice(name.as_bytes())?;
+    }
+    Ok(())
 }
 
-fn is_file_of(entry: &Entry, text: &str) -> bool {
+/// `missing`, `file` with its bytes, or `dir` with its names.
+fn look_text(alloc: Global, entry: &Entry) -> Result<String, Fail> {
+    let mut out = Vec::new(alloc);
     match entry {
-        Entry::Missing => false,
-        Entry::File(bytes) => bytes.as_slice() == text.as_bytes(),
+        Entry::Missing => out.extend_from_slice(b"missing")?,
+        Entry::File(bytes) => {
+            out.extend_from_slice(b"file ")?;
+            out.extend_from_slice(bytes.as_slice())?;
+        }
+        Entry::Dir(names) => {
+            out.extend_from_slice(b"dir")?;
+            add_words(&mut out, names.as_slice())?;
+        }
     }
+    Ok(String::from_utf8(out)?)
+}
+
+/// The edit of a line.
+fn edit_of(alloc: Global, word: &str, at: Path, last: &str) -> Result<Edit, Fail> {
+    match word {
+        "write" => Ok(Edit::Write(at, bytes(alloc, last)?)),
+        "mkdir" => Ok(Edit::Mkdir(at)),
+        "remove" => Ok(Edit::Remove(at)),
+        _ => Ok(Edit::Move(at, path(alloc, last)?)),
+    }
+}
+
+/// What the tree answers to a line: `look PATH`, `write PATH BYTES`, `mkdir PATH`, `remove PATH` or
+/// `move PATH PATH`.
+fn answer<T: Tree>(alloc: Global, tree: &mut T, line: &str) -> Result<String, Fail> {
+    let mut words = line.split_whitespace();
+    let word = words.next().unwrap_or("");
+    let at = path(alloc, words.next().unwrap_or(""))?;
+    let last = words.next().unwrap_or("");
+    if word == "look" {
+        let entry = tree.look(&at)?;
+        return look_text(alloc, &entry);
+    }
+    let edit = edit_of(alloc, word, at, last)?;
+    after_edit(alloc, tree, &edit)
 }
 
 #[test]
-fn writes_are_seen_or_refused(rt: HostRuntime) -> Result<(), Fail> {
+fn edits_are_refused_in_order(rt: HostRuntime) -> Result<(), Fail> {
+    let alloc = rt.alloc();
+    for (line, want) in [
+        ("write / a", "1"),
+        ("write /n/x a", "2"),
+        ("write /f/x/y a", "2"),
+        ("write /f/x a", "3"),
+        ("write /d a", "4"),
+        ("write /f b", "done"),
+        ("mkdir /", "1"),
+        ("mkdir /n/x", "2"),
+        ("mkdir /f/x", "3"),
+        ("mkdir /f", "4"),
+        ("mkdir /d", "4"),
+        ("remove /", "1"),
+        ("remove /n", "5"),
+        ("remove /f/x", "5"),
+        ("move / /e", "1"),
+        ("move /n /", "1"),
+        ("move /n /n/x", "5"),
+        ("move /d /d/e", "6"),
+        ("move /d /d/n/e", "6"),
+        ("move /f /f/e", "6"),
+        ("move /d /n/e", "2"),
+        ("move /d /f/e", "3"),
+        ("move /d /f", "4"),
+        ("move /f /d", "4"),
+        ("move /d/x /d", "4"),
+        ("move /d /e", "done"),
+        ("move /d /d", "done"),
+        ("move /d/x /x", "done"),
+    ] {
+        let mut tree = MemTree::new(alloc, Case::Sensitive);
+        for made in ["write /f a", "mkdir /d", "write /d/x a"] {
+            assert_eq!(rt; answer(alloc, &mut tree, made)?.as_str(), "done");
+        }
+        assert_eq!(rt; answer(alloc, &mut tree, line)?.as_str(), want, "{line}");
+    }
+    Ok(())
+}
+
+#[test]
+fn looks_follow_edits(rt: HostRuntime) -> Result<(), Fail> {
     let alloc = rt.alloc();
     let mut tree = MemTree::new(alloc, Case::Insensitive);
-    let writes = [
-        ("/f", "a", 0),
-        ("/", "a", 1),
-        ("/n/x", "a", 2),
-        ("/f/x/y", "a", 2),
-        ("/f/x", "a", 3),
-        ("/f", "b", 0),
-        ("/A", "c", 0),
-    ];
-    for (at, text, refusal) in writes {
-        assert_eq!(rt;
-            refusal_of_write(&mut tree, alloc, at, text)?,
-            refusal,
-            "at {at}"
-        );
+    for (line, want) in [
+        ("look /", "dir"),
+        ("mkdir /a", "done"),
+        ("write /a/X x", "done"),
+        ("write /a/b y", "done"),
+        ("mkdir /a/C", "done"),
+        ("look /a", "dir b C X"),
+        ("look /A/x", "file x"),
+        ("look /a/x/y", "missing"),
+        ("look /a/x/y/z", "missing"),
+        ("look /n", "missing"),
+        ("write /A/B z", "done"),
+        ("look /a", "dir b C X"),
+        ("look /a/b", "file z"),
+        ("move /a/b /a/B", "done"),
+        ("look /a", "dir B C X"),
+        ("move /a/x /a/c/Y", "done"),
+        ("look /a", "dir B C"),
+        ("look /a/C", "dir Y"),
+        ("move /A /Top", "done"),
+        ("look /", "dir Top"),
+        ("look /top/c/y", "file x"),
+        ("look /a/c/y", "missing"),
+        ("move /top /TOP", "done"),
+        ("look /", "dir TOP"),
+        ("look /Top", "dir B C"),
+        ("remove /top/C", "done"),
+        ("look /top", "dir B"),
+        ("look /top/c/y", "missing"),
+        ("mkdir /top/c", "done"),
+        ("look /top/c", "dir"),
+    ] {
+        assert_eq!(rt; answer(alloc, &mut tree, line)?.as_str(), want, "{line}");
     }
-    let looks = [
-        ("/f", Some("b")),
-        ("/a", Some("c")),
-        ("/n", None),
-        ("/f/x", None),
-        ("/f/x/y", None),
-    ];
-    for (at, want) in looks {
-        let path = path(alloc, at)?;
-        assert!(rt; path.len() > 0);
-        let entry = look_at(&mut tree, &path)?;
-        match want {
-            None => assert!(rt; matches!(entry, Entry::Missing), "at {at}"),
-            Some(text) => assert!(rt; is_file_of(&entry, text), "at {at}"),
-        }
+    Ok(())
+}
+
+#[test]
+fn names_are_in_order(rt: HostRuntime) -> Result<(), Fail> {
+    let alloc = rt.alloc();
+    let mut tree = MemTree::new(alloc, Case::Sensitive);
+    for made in ["write /b b", "write /C c", "write /a a", "mkdir /B"] {
+        assert_eq!(rt; answer(alloc, &mut tree, made)?.as_str(), "done");
     }
+    assert_eq!(rt; answer(alloc, &mut tree, "look /")?.as_str(), "dir B C a b");
+    assert_eq!(rt; answer(alloc, &mut tree, "look /c")?.as_str(), "missing");
     Ok(())
 }
 
@@ -93,12 +177,49 @@ fn writes_are_seen_or_refused(rt: HostRuntime) -> Result<(), Fail> {
 fn directory_takes_4096_names(rt: HostRuntime) -> Result<(), Fail> {
     let alloc = rt.alloc();
     let mut tree = MemTree::new(alloc, Case::Sensitive);
-    for i in 0..4096u32 {
-        let at = format!(in alloc; "/{i}")?;
-        assert_eq!(rt; refusal_of_write(&mut tree, alloc, at.as_str(), "a")?, 0);
+    for made in ["mkdir /full", "mkdir /other", "write /other/x a"] {
+        assert_eq!(rt; answer(alloc, &mut tree, made)?.as_str(), "done");
     }
-    assert_eq!(rt; refusal_of_write(&mut tree, alloc, "/4096", "a")?, 8);
-    assert_eq!(rt; refusal_of_write(&mut tree, alloc, "/0", "b")?, 0);
+    for i in 0..4096u32 {
+        let made = format!(in alloc; "write /full/{i} a")?;
+        assert_eq!(rt; answer(alloc, &mut tree, made.as_str())?.as_str(), "done");
+    }
+    for (line, want) in [
+        ("write /full/new a", "8"),
+        ("mkdir /full/new", "8"),
+        ("write /full/0 b", "done"),
+        ("move /full/0 /full/new", "done"),
+        ("move /other/x /full/x", "8"),
+        ("move /full/1 /other/1", "done"),
+        ("move /other/x /full/x", "done"),
+        ("look /full/new", "file b"),
+        ("look /full/x", "file a"),
+    ] {
+        assert_eq!(rt; answer(alloc, &mut tree, line)?.as_str(), want, "{line}");
+    }
+    Ok(())
+}
+
+#[test]
+fn paths_have_64_names(rt: HostRuntime) -> Result<(), Fail> {
+    let alloc = rt.alloc();
+    let mut tree = MemTree::new(alloc, Case::Sensitive);
+    let mut deep = String::new(alloc);
+    for _ in 0..64u32 {
+        deep.push_str("/a")?;
+        let made = format!(in alloc; "mkdir {deep}")?;
+        assert_eq!(rt; answer(alloc, &mut tree, made.as_str())?.as_str(), "done");
+    }
+    for (line, want) in [
+        ("mkdir /b", "done"),
+        ("move /a /b/a", "7"),
+        ("move /a/a /b/a", "done"),
+        ("move /b /a/b", "7"),
+        ("move /a /c", "done"),
+        ("look /b/a", "dir a"),
+    ] {
+        assert_eq!(rt; answer(alloc, &mut tree, line)?.as_str(), want, "{line}");
+    }
     Ok(())
 }
 

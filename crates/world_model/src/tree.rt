@@ -1,11 +1,12 @@
 //! Trees.
 
-ghost use Rattle.std.specs.Prelude.{◌≡◌, ◌<◌, ◌≤◌, ℕ, Some, None, IfOk, IfErr, OnOk, OnErr, length};
+ghost use Rattle.std.specs.Prelude.{◌≡◌, ◌≤◌, ℕ, Some, None, IfOk, IfErr, OnOk, OnErr, length};
 ghost use Rattle.vfs_model.specs.Paths.{place};
 ghost use Rattle.vfs_model.specs.World.{World, IsWorld};
 ghost use Rattle.vfs_model.specs.Edit as edits;
 ghost use Rattle.vfs_model.specs.Scanning as scanning;
 ghost use Rattle.vfs_model.specs.Faults.{Rose};
+ghost use Rattle.vfs_model.specs.Sound.{IsLook};
 ghost use Rattle.world_model.specs.declared.entry.LookError.TheVariants as look_error;
 ghost use Rattle.world_model.specs.Told.{TreeTold, IsApplied};
 ghost use Rattle.world_model.specs.Meaning.{edit_of, events_of, look_seen, IsCause};
@@ -29,16 +30,17 @@ pub trait Tree {
         ensures case { result ≡ (told self.now).case }
         ensures world { (w : World) → (told self.now).content ≡ Some w → IsWorld (told self.now).case w };
 
-    /// What is at the path, below the root. The content stays.
+    /// What is at the path. The content stays.
     ///
-    /// `Failed` comes only where the count of faults rose in this call; `NoMemory` is want of
-    /// memory.
+    /// The names of a directory are in order under the case, no two the same, at most 4,096, and
+    /// none where the path has 64 names. `Failed` comes only where the count of faults rose in this
+    /// call; `NoMemory` is want of memory.
     fn look(&mut self, path: &Path) -> Result<Entry, LookError>
-        requires { 0 < length path.now }
         ensures case { (told self.new).case ≡ (told self.old).case }
         ensures content { (told self.new).content ≡ (told self.old).content }
         ensures faults { (told self.old).faults ≤ (told self.new).faults }
         ensures limit { (told self.new).faults ≤ most_faults }
+        ensures shape { IfOk result (λ entry. IsLook (told self.old).case (length path.now) (look_seen entry)) }
         ensures seen { IfOk result (λ entry. (w : World) → (told self.old).content ≡ Some w → look_seen entry ≡ scanning.look (told self.old).case w (place (told self.old).case path.now)) }
         ensures failed { IfErr result (λ e. e ≡ look_error.Failed → Rose (told self.old).faults (told self.new).faults) };
 

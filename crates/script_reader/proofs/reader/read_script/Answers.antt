@@ -1,6 +1,5 @@
 use Rattle.script_reader.specs.declared.script.TextKind.TheVariants.{Replay}
 use Rattle.script_reader.proofs.TextLaws.{result_found, result_bad, result_read, result_named}
-use Rattle.script_reader.proofs.Begun.{result_below}
 use Rattle.script_reader.proofs.reader.read_script.Goals as goal
 
 pub returns : goal.returns
@@ -10,7 +9,6 @@ returns c =
     let reads = c.read_lines.ensures in
     record {
       found = result_found Replay text r reads;
-      begun = result_below text r (result_found Replay text r reads);
       bad = result_bad Replay text r reads;
       read = result_read Replay text r reads;
       named = result_named Replay text r reads;

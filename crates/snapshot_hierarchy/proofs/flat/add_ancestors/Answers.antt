@@ -1,5 +1,5 @@
 use Rattle.std.proofs.Common.{◌≤◌, ◌∙◌, length, refl, arith}
-use Rattle.snapshot_hierarchy.specs.Flat.{places_of}
+use Rattle.snapshot_tree.specs.Pieces.{places_of}
 use Rattle.snapshot_hierarchy.proofs.InsertLemmas.{ancestors-all, ancestors-next}
 use Rattle.snapshot_hierarchy.proofs.flat.add_ancestors.Goals as goal
 

@@ -1,7 +1,7 @@
 use Rattle.std.proofs.Common.{◌≡◌, take}
 use Rattle.vfs_model.specs.Paths.{place}
 use Rattle.vfs_model.specs.Retained.{ancestors, insert_dirs}
-use Rattle.snapshot_hierarchy.specs.Flat.{places_of}
+use Rattle.snapshot_tree.specs.Pieces.{places_of}
 use Rattle.snapshot_hierarchy.proofs.flat.add_ancestors.Given as goal
 
 -- those nearer to the root are still to come

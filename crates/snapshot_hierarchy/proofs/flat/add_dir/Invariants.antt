@@ -1,7 +1,7 @@
 use Rattle.std.proofs.Common.{◌≡◌, ◌++◌, take, drop}
 use Rattle.vfs_model.specs.Paths.{place}
 use Rattle.vfs_model.specs.Retained.{insert_dir}
-use Rattle.snapshot_hierarchy.specs.Flat.{places_of}
+use Rattle.snapshot_tree.specs.Pieces.{places_of}
 use Rattle.snapshot_hierarchy.proofs.flat.add_dir.Given as goal
 
 -- the directory goes behind those that were passed

@@ -1,6 +1,6 @@
 use Rattle.std.proofs.Common.{◌≡◌, ◌++◌, take, drop}
 use Rattle.vfs_model.specs.Retained.{insert_pair}
-use Rattle.snapshot_hierarchy.specs.Flat.{pair_of, pairs_of}
+use Rattle.snapshot_tree.specs.Pieces.{pair_of, pairs_of}
 use Rattle.snapshot_hierarchy.proofs.flat.add_pair.Given as goal
 
 -- the pair goes behind those that were passed

@@ -3,8 +3,8 @@ use Rattle.std.proofs.lemmas.Iterator.{YieldsList-from_slice}
 use Rattle.std.proofs.lemmas.Iterator.Search.{any_from_yields_List}
 use Rattle.vfs_model.specs.Paths.{Path, place, is_at_or_above}
 use Rattle.vfs_model.specs.Retained.{Pair}
-use Rattle.snapshot_hierarchy.specs.declared.flat.Pair.{Pair as PairValue}
-use Rattle.snapshot_hierarchy.specs.Flat.{pair_of}
+use Rattle.snapshot_tree.specs.declared.pieces.Pair.{Pair as PairValue}
+use Rattle.snapshot_tree.specs.Pieces.{pair_of}
 use Rattle.snapshot_hierarchy.proofs.FindLemmas.{list_any-map}
 use Rattle.snapshot_hierarchy.proofs.flat.is_covered.Goals as goal
 

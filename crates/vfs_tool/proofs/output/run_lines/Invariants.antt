@@ -1,10 +1,12 @@
 use Rattle.std.proofs.Common.{◌-◌, ◌≤◌, length, take}
+use Rattle.vfs_model.specs.Stands.{Stands}
+use Rattle.vfs_tool.specs.Report.{printed}
 use Rattle.vfs_tool.specs.Printing.{IsReady, RunsAll}
 use Rattle.vfs_tool.proofs.output.run_lines.Given as goal
 
 abbrev pub invariant-loop-line : goal.invariant-loop-line
 invariant-loop-line g l = record {
-  run : RunsAll g.V.Versions.version g.V.Versions.count l.initial.machine l.machine (take l.line-index l.lines) (g.K.Sink.written l.initial.sink) (g.K.Sink.written l.sink);
+  run : RunsAll printed (Stands g.V.Versions.version g.V.Versions.count l.initial.machine) (Stands g.V.Versions.version g.V.Versions.count l.machine) (take l.line-index l.lines) (g.K.Sink.written l.initial.sink) (g.K.Sink.written l.sink);
   ready : IsReady g.V.Versions.version g.V.Versions.count l.machine (length l.lines - l.line-index);
   later : g.K.Sink.faults l.initial.sink ≤ g.K.Sink.faults l.sink;
 }

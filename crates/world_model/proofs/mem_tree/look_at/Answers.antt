@@ -1,22 +1,19 @@
-use Rattle.std.proofs.Common.{ap, ◌∙◌, sym, arith}
+use Rattle.std.proofs.Common.{None, Some, ◌∙◌, ap}
 use Rattle.vfs_model.specs.Paths.{place}
-use Rattle.vfs_model.specs.Scanning.{look, SeesFile}
-use Rattle.world_model.specs.Files.{world_of}
-use Rattle.world_model.proofs.FileLemmas.{one-name, look-file, look-nothing, look-deep, found, not_found}
+use Rattle.vfs_model.specs.Scanning.{SeesDir}
+use Rattle.world_model.specs.FileTree.{Leaf, Branch}
+use Rattle.world_model.proofs.LookLemmas.{look-tree}
 use Rattle.world_model.proofs.mem_tree.look_at.Goals as goal
 
-pub returns-in-None : goal.returns-in-None
-returns-in-None c =
-    let is = one-name c.args.names.now c.name-item.result (omega arith) (omega arith) c.name-item.is in
-    look-nothing c.args.case c.args.files.now c.name-item.result (not_found c.args.case c.args.files.now c.name-item.result (sym c.in-None.ensures))
-    ∙ ap (λ x. look c.args.case (world_of c.args.files.now) (place c.args.case x)) (sym is)
+pub returns-in-Missing : goal.returns-in-Missing
+returns-in-Missing c = look-tree c.args.case c.args.root.now (place c.args.case c.args.names.now) None c.requires c.in-Missing.ensures.found
 
-pub returns-in_ok-share-in-Some : goal.returns-in_ok-share-in-Some
-returns-in_ok-share-in-Some c =
-    let is = one-name c.args.names.now c.name-item.result (omega arith) (omega arith) c.name-item.is in
-    ap SeesFile (c.in_ok-share-in-Some.ensures ∙ ap (λ f. f.bytes) (sym c.index-files-i.is))
-    ∙ look-file c.args.case c.args.files.now c.name-item.result c.index-files-i.result (found c.args.case c.args.files.now c.name-item.result c.in-Some.i c.index-files-i.result (sym c.in-Some.ensures) c.index-files-i.is)
-    ∙ ap (λ x. look c.args.case (world_of c.args.files.now) (place c.args.case x)) (sym is)
+pub returns-in_ok-bytes-in-File : goal.returns-in_ok-bytes-in-File
+returns-in_ok-bytes-in-File c =
+    ap Rattle.vfs_model.specs.Scanning.SeesFile c.in_ok-bytes-in-File.ensures
+    ∙ look-tree c.args.case c.args.root.now (place c.args.case c.args.names.now) (Some (Leaf c.in-File.bytes.now)) c.requires c.in-File.ensures.found
 
-pub returns-in-len2-up : goal.returns-in-len2-up
-returns-in-len2-up c = look-deep c.args.case c.args.files.now c.args.names.now (omega arith)
+pub returns-in_ok-names-in-Dir : goal.returns-in_ok-names-in-Dir
+returns-in_ok-names-in-Dir c =
+    ap SeesDir c.in_ok-names-in-Dir.ensures
+    ∙ look-tree c.args.case c.args.root.now (place c.args.case c.args.names.now) (Some (Branch c.in-Dir.directory.now)) c.requires c.in-Dir.ensures.found

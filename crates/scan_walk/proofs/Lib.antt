@@ -1,0 +1,4 @@
+pub mod StepLemmas
+pub mod MakingLemmas
+pub mod ChildrenLemmas
+pub mod SeenLemmas

@@ -1,0 +1,44 @@
+-- What a cause says of a line, in the words of the grammar.
+use Rattle.std.specs.Prelude.{◌≡◌, ◌≢◌, ℕ, ◌<◌, ◌≤◌, List, [], ◌∷◌, ◌++◌, length, Ok, Err, codes, ◌==◌}
+use Rattle.std.specs.List.{slice_split}
+use Rattle.std.specs.Fmt.{decimal}
+use Rattle.vfs_path.specs.Texts.{path_of}
+use Rattle.script_reader.specs.declared.cause.Cause.{Cause}
+use Rattle.script_reader.specs.declared.cause.Cause.TheVariants.{UnknownWord, WrongCount, BadPath, TooLarge, EmptyWord, BadEscape, BadCaller, LateSetting}
+use Rattle.script_reader.specs.declared.script.Script.{Script}
+use Rattle.script_reader.specs.Words.{value_of, words_of}
+use Rattle.script_reader.specs.Grammar.{IsOpening, IsCommand}
+
+-- one of the words is such
+abbrev pub HasWord : (List ℕ → Type 0) → List (List ℕ) → Type 0
+HasWord P words = (before : List (List ℕ)) × (word : List ℕ) × (after : List (List ℕ)) × (words ≡ before ++ word ∷ after) × P word
+
+-- no words of the grammar begin with this one
+abbrev pub IsNoName : {X : Type 0} → (X → List (List ℕ) → Type 0) → List ℕ → Type 0
+IsNoName {X} IsForm name = (x : X) (args : List (List ℕ)) → IsForm x (name ∷ args) → ⊥
+
+-- no words of the grammar begin with this one and are so many more
+abbrev pub IsNoCount : {X : Type 0} → (X → List (List ℕ) → Type 0) → List ℕ → ℕ → Type 0
+IsNoCount {X} IsForm name n = (x : X) (args : List (List ℕ)) → IsForm x (name ∷ args) → length args ≡ n → ⊥
+
+-- what a cause says of the words after `set` or a caller
+abbrev pub HoldsOfWords : {X : Type 0} → (X → List (List ℕ) → Type 0) → List (List ℕ) → Cause → Type 0
+HoldsOfWords IsForm [] cause = cause ≡ WrongCount
+HoldsOfWords IsForm (name ∷ args) UnknownWord = IsNoName IsForm name
+HoldsOfWords IsForm (name ∷ args) WrongCount = IsNoCount IsForm name (length args) × (IsNoName IsForm name → ⊥)
+HoldsOfWords IsForm (name ∷ args) (BadPath refusal) = HasWord (λ word. path_of word ≡ Err refusal) args
+HoldsOfWords IsForm (name ∷ args) TooLarge = HasWord (λ word. 1048576 < length word) args
+HoldsOfWords IsForm (name ∷ args) _ = ⊥
+
+-- what stands between the spaces of a line
+abbrev pub parts_of : List ℕ → List (List ℕ)
+parts_of text = slice_split (λ b. b == 32) text
+
+-- what a cause says of a line that stands after the lines of a script
+pub data Holds (before : Script) (text : List ℕ) : Cause → Type 0 where
+  empty : HasWord (λ part. part ≡ []) (parts_of text) → Holds before text EmptyWord
+  escape : (HasWord (λ part. part ≡ []) (parts_of text) → ⊥) → HasWord (λ part. value_of part ≡ Err BadEscape) (parts_of text) → Holds before text BadEscape
+  caller : (first : List ℕ) (more : List (List ℕ)) → words_of text ≡ Ok (first ∷ more) → first ≢ codes "set" → ((n : ℕ) → n ≤ 15 → first ≢ decimal n) → Holds before text BadCaller
+  late : (more : List (List ℕ)) → words_of text ≡ Ok (codes "set" ∷ more) → before.lines ≢ [] → Holds before text LateSetting
+  setting : (more : List (List ℕ)) (cause : Cause) → words_of text ≡ Ok (codes "set" ∷ more) → before.lines ≡ [] → HoldsOfWords IsOpening more cause → Holds before text cause
+  command : (n : ℕ) (more : List (List ℕ)) (cause : Cause) → words_of text ≡ Ok (decimal n ∷ more) → n ≤ 15 → HoldsOfWords IsCommand more cause → Holds before text cause
