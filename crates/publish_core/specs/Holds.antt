@@ -1,15 +1,13 @@
 -- What a Vfs holds: plain data, and its versions.
 use Rattle.std.specs.Prelude.{refl}
 use Rattle.std.specs.Coded.{Coded, code_by, coded×}
-use Rattle.vfs_model.specs.declared.Case.{Case}
-use Rattle.vfs_model.specs.Retained.{Retained}
-use Rattle.vfs_model.specs.Code.{case_code, retained_code}
+use Rattle.snapshot_hierarchy.specs.Held.{Held, held_code}
 
--- the case, what is retained, and the versions of paths
+-- what its holder of snapshots tells, and the versions of paths
 pub record Holds (V : Type 0) : Type 0 where
-  pub case : Case
-  pub retained : Retained
+  pub held : Held
+  pub open held use *
   pub versions : V
 
 abbrev pub holds_code : {V : Type 0} → Coded V → Coded (Holds V)
-holds_code {V} v = code_by (Case × (Retained × V)) (coded× case_code (coded× retained_code v)) (λ h. (h.case, (h.retained, h.versions))) (λ p. record { case = p.0; retained = p.1.0; versions = p.1.1 }) (λ _. refl)
+holds_code {V} v = code_by (Held × V) (coded× held_code v) (λ h. (h.held, h.versions)) (λ p. record { held = p.0; versions = p.1 }) (λ _. refl)

@@ -1,8 +1,10 @@
 //! What is retained, with the rule by which a publication is stale.
 #![tactic(auto)]
 
+mod published;
 #[cfg(test)]
 mod tests;
 mod vfs;
 
-pub use vfs::{Published, Ticket, Vfs};
+pub use published::{Published, Refusal, Ticket};
+pub use vfs::Vfs;

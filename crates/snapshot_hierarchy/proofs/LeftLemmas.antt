@@ -6,12 +6,12 @@ use Rattle.std.proofs.lemmas.List.Elements.{filter-append}
 use Rattle.vfs_model.specs.declared.Case.{Case}
 use Rattle.vfs_model.specs.Paths.{Path, place, is_at_or_above}
 use Rattle.vfs_model.specs.Snapshot.{Snapshot}
-use Rattle.vfs_model.specs.Retained.{Pair, Retained, insert_dirs, dirs_from, pairs_left, dirs_left, all_pairs_left, all_dirs_left, is_covered, after_invalidation, after_store}
+use Rattle.vfs_model.specs.Retained.{Pair, Retained, insert_pair, insert_dirs, known_above, dirs_from, pairs_left, dirs_left, all_pairs_left, all_dirs_left, is_covered, after_invalidation, after_store}
 use Rattle.vfs_laws.proofs.Splits.{split}
 use Rattle.snapshot_tree.specs.declared.pieces.Pair.{Pair as PairValue}
 use Rattle.snapshot_tree.specs.Pieces.{pair_of, pairs_of, places_of}
 use Rattle.vfs_laws.proofs.AboveLemmas.{above-short}
-use Rattle.snapshot_hierarchy.specs.Flat.{opened_dirs, with_pair}
+use Rattle.snapshot_hierarchy.specs.Flat.{lists_of, opened_dirs, with_pair}
 use Rattle.snapshot_hierarchy.proofs.InsertLemmas.{insert_dirs-append}
 
 -- ---- one pair
@@ -55,11 +55,20 @@ filter-next t case dirs i d h is = rw (take_more dirs i d h, ← is, map-append)
 -- ---- all of them
 
 -- the directories left are those outside, with those that the pairs strictly above leave
-pub all_dirs_left-is : (case : Case) (e : Path) (rs : List Pair) (dirs : List Path) → all_dirs_left case e rs dirs ≡ insert_dirs (opened_dirs case e rs) (filter (λ d. not (is_at_or_above e d)) dirs)
+all_dirs_left-is : (case : Case) (e : Path) (rs : List Pair) (dirs : List Path) → all_dirs_left case e rs dirs ≡ insert_dirs (opened_dirs case e rs) (filter (λ d. not (is_at_or_above e d)) dirs)
 all_dirs_left-is case e [] dirs = refl
 all_dirs_left-is case e (r ∷ rs) dirs =
     ap (insert_dirs (dirs_left case e r)) (all_dirs_left-is case e rs dirs)
     ∙ sym (insert_dirs-append (dirs_left case e r) (opened_dirs case e rs) (filter (λ d. not (is_at_or_above e d)) dirs))
+
+-- the two lists after an invalidation are made of what is left of the pairs, and of the directories outside with those that become known
+pub lists-left : (case : Case) (e : Path) (pairs left : List PairValue) (dirs opened outside now : List Path)
+    → pairs_of case left ≡ all_pairs_left case e (pairs_of case pairs) → places_of case opened ≡ opened_dirs case e (pairs_of case pairs) → places_of case outside ≡ filter (λ d. not (is_at_or_above e d)) (places_of case dirs)
+    → places_of case now ≡ insert_dirs (places_of case opened) (places_of case outside)
+    → lists_of case left now ≡ after_invalidation case e (lists_of case pairs dirs)
+lists-left case e pairs left dirs opened outside now one two three four =
+    let all = four ∙ (λ i. insert_dirs (two i) (three i)) ∙ sym (all_dirs_left-is case e (pairs_of case pairs) (places_of case dirs)) in
+    λ i. record { pairs = one i; dirs = all i }
 
 -- ---- a store
 
@@ -89,10 +98,18 @@ opened_dirs-uncovered case e (r ∷ rs) h =
     (λ s. rw (dirs_left-apart case e r (below-too (is_at_or_above r.path e) (is_at_or_above e r.path) free.0 s)) rest)
 
 -- a store is an invalidation, after which the pair comes
-pub store-is : (case : Case) (p : Path) (s : Snapshot) (rs : List Pair) (dirs : List Path) → is_covered rs p ≡ false
+store-is : (case : Case) (p : Path) (s : Snapshot) (rs : List Pair) (dirs : List Path) → is_covered rs p ≡ false
     → with_pair p s (after_invalidation case p (record { pairs = rs; dirs = dirs })) ≡ after_store p s (record { pairs = rs; dirs = dirs })
 store-is case p s rs dirs free =
     rw (free, all_pairs_left-uncovered case p rs free, all_dirs_left-is case p rs dirs, opened_dirs-uncovered case p rs free) refl
+
+-- and so the two lists after a store are made of those after an invalidation
+pub lists-stored : (case : Case) (p : Path) (s : Snapshot) (old : Retained) (pairs now : List PairValue) (dirs now_dirs : List Path)
+    → is_covered old.pairs p ≡ false → lists_of case pairs dirs ≡ after_invalidation case p old
+    → places_of case now_dirs ≡ insert_dirs (known_above p s) (places_of case dirs) → pairs_of case now ≡ insert_pair (record { path = p; snapshot = s }) (pairs_of case pairs)
+    → lists_of case now now_dirs ≡ after_store p s old
+lists-stored case p s old pairs now dirs now_dirs free left known kept =
+    (λ i. record { pairs = kept i; dirs = known i }) ∙ ap (with_pair p s) left ∙ store-is case p s old.pairs old.dirs free
 
 -- where a pair stands strictly above, nothing changes
 pub store-covered : (p : Path) (s : Snapshot) (retained : Retained) → is_covered retained.pairs p ≡ true → retained ≡ after_store p s retained

@@ -1,9 +1,7 @@
 -- What the two lists of the flat form stand for.
-use Rattle.std.specs.Prelude.{List, [], ◌∷◌, ◌++◌, refl, Option}
+use Rattle.std.specs.Prelude.{List, [], ◌∷◌, ◌++◌, Option, None}
 use Rattle.std.specs.List.{find}
-use Rattle.std.specs.Coded.{Coded, code_by, coded×}
 use Rattle.vfs_model.specs.declared.Case.{Case}
-use Rattle.vfs_model.specs.Code.{case_code, retained_code}
 use Rattle.vfs_model.specs.Paths.{Path, place, is_at_or_above}
 use Rattle.vfs_model.specs.Retained.{Pair, Retained, dirs_left, insert_pair, insert_dirs, known_above}
 use Rattle.vfs_model.specs.Snapshot.{Snapshot}
@@ -12,11 +10,12 @@ use Rattle.snapshot_tree.specs.Pieces.{pairs_of, places_of}
 use Rattle.snapshot_hierarchy.specs.Held.{Held}
 
 -- the lists, by the places of their paths
-abbrev pub held_of : Case → List PairValue → List Path → Held
-held_of case pairs dirs = record { case = case; retained = record { pairs = pairs_of case pairs; dirs = places_of case dirs } }
+abbrev pub lists_of : Case → List PairValue → List Path → Retained
+lists_of case pairs dirs = record { pairs = pairs_of case pairs; dirs = places_of case dirs }
 
-abbrev pub held_code : Coded Held
-held_code = code_by (Case × Retained) (coded× case_code retained_code) (λ h. (h.case, h.retained)) (λ p. record { case = p.0; retained = p.1 }) (λ _. refl)
+-- what is retained under the case, by a holder that tells no changes
+abbrev pub holding : Case → Retained → Held
+holding case retained = record { case = case; retained = retained; log = None }
 
 -- the first pair at or above the path
 abbrev pub first_over : Case → Path → List PairValue → Option PairValue

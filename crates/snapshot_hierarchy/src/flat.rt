@@ -1,13 +1,14 @@
 //! The two lists themselves.
 
-ghost use Rattle.std.specs.Prelude.{◌≡◌, ◌++◌, ◌&&◌, not, filter, IfOk, OnOk};
+ghost use Rattle.std.specs.Prelude.{◌≡◌, ◌++◌, ◌&&◌, None, false, not, filter, IfOk, OnOk};
 ghost use Rattle.std.specs.Option.{option_map};
 ghost use Rattle.vfs_model.specs.Paths.{place, is_at_or_above, is_same_place};
 ghost use Rattle.vfs_model.specs.Retained as spec;
+ghost use Rattle.vfs_model.specs.Snapshot.{IsTree};
 ghost use Rattle.snapshot_tree.specs.Meaning.{meaning_of};
 ghost use Rattle.snapshot_tree.specs.Pieces.{pair_of, pairs_of, places_of};
 ghost use Rattle.snapshot_hierarchy.specs.Held.{nothing};
-ghost use Rattle.snapshot_hierarchy.specs.Flat.{first_over, opened_dirs, with_pair};
+ghost use Rattle.snapshot_hierarchy.specs.Flat.{holding, first_over, opened_dirs};
 
 use crate::retain::{Retain, Stored};
 use case_order::{Case, NoMemory, Share};
@@ -27,23 +28,24 @@ pub struct FlatRetain {
 }
 
 impl Model for FlatRetain {
-    ghost use Rattle.snapshot_hierarchy.specs.Held.{Held};
+    ghost use Rattle.vfs_model.specs.Retained.{IsInShape};
+    ghost use Rattle.snapshot_hierarchy.specs.Held.{Held, held_code};
 
     ghost Value = { Held };
 
-    ghost use Rattle.snapshot_hierarchy.specs.Flat.{held_code};
-
     ghost coded = { held_code };
 
-    ghost use Rattle.snapshot_hierarchy.specs.Flat.{held_of};
+    ghost use Rattle.snapshot_hierarchy.specs.Flat.{lists_of, holding};
 
-    ghost view = { λ r. held_of r.case r.pairs.items r.dirs.items };
+    ghost view = { λ r. holding r.case (lists_of r.case r.pairs.items r.dirs.items) };
+
+    ghost invariant = { λ r. IsInShape r.case (lists_of r.case r.pairs.items r.dirs.items) };
 }
 
 impl FlatRetain {
     /// Nothing is retained; takes no memory.
     pub fn new(alloc: Global, case: Case) -> FlatRetain
-        ensures { result ≡ record { case = case; retained = nothing } }
+        ensures { result ≡ holding case nothing }
     {
         FlatRetain {
             case,
@@ -54,7 +56,9 @@ impl FlatRetain {
 
     /// What an invalidation of the path leaves.
     fn without(&self, path: &Path) -> Result<FlatRetain, NoMemory>
-        ensures { IfOk result (λ left. left ≡ record { case = self.now.case; retained = spec.after_invalidation self.now.case (place self.now.case path.now) self.now.retained }) }
+        ensures left { IfOk result (λ left. left ≡ holding self.now.case
+            (spec.after_invalidation self.now.case (place self.now.case path.now) self.now.retained)) }
+        ensures untold { self.now.log ≡ None }
     {
         let (pairs, opened) = pairs_left(*self.pairs.allocator(), self.case, &self.pairs, path)?;
         let mut dirs = dirs_outside(*self.dirs.allocator(), self.case, &self.dirs, path)?;
@@ -66,13 +70,24 @@ impl FlatRetain {
         })
     }
 
-    /// Adds the pair, and the directories that it makes known.
-    fn keep(&mut self, path: &Path, snapshot: Snapshot) -> Result<(), NoMemory>
-        ensures { OnOk result (self.new ≡ record { case = self.old.case; retained = with_pair (place self.old.case path.now) (meaning_of snapshot) self.old.retained }) }
+    /// The same with the snapshot at the path, which no pair stands strictly above.
+    fn with(&self, path: &Path, snapshot: Snapshot) -> Result<FlatRetain, NoMemory>
+        requires tree { IsTree self.now.case (meaning_of snapshot) }
+        requires free { spec.is_covered self.now.retained.pairs (place self.now.case path.now) ≡ false }
+        ensures kept { IfOk result (λ kept. kept ≡ holding self.now.case
+            (spec.after_store (place self.now.case path.now) (meaning_of snapshot) self.now.retained)) }
+        ensures untold { self.now.log ≡ None }
     {
-        add_known(self.case, &mut self.dirs, path, &snapshot)?;
+        let case = self.case();
+        let FlatRetain {
+            case: _,
+            mut pairs,
+            mut dirs,
+        } = self.without(path)?;
+        add_known(case, &mut dirs, path, &snapshot)?;
         let path = path.share()?;
-        add_pair(self.case, &mut self.pairs, Pair { path, snapshot })
+        add_pair(case, &mut pairs, Pair { path, snapshot })?;
+        Ok(FlatRetain { case, pairs, dirs })
     }
 }
 
@@ -106,13 +121,15 @@ impl Retain for FlatRetain {
         }
     }
 
+    fn covers(&self, path: &Path) -> bool {
+        is_covered(self.case, &self.pairs, path)
+    }
+
     fn store(&mut self, path: &Path, snapshot: Snapshot) -> Result<Stored, NoMemory> {
-        if is_covered(self.case, &self.pairs, path) {
+        if self.covers(path) {
             return Ok(Stored::Covered);
         }
-        let mut left = self.without(path)?;
-        left.keep(path, snapshot)?;
-        *self = left;
+        *self = self.with(path, snapshot)?;
         Ok(Stored::Kept)
     }
 

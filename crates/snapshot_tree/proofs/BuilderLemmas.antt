@@ -5,7 +5,7 @@ use Rattle.std.specs.List.{AllByRecursion as Each}
 use Rattle.vfs_model.specs.declared.Case.{Case}
 use Rattle.vfs_model.specs.Paths.{Name, folded_name, is_same_name, name_order}
 use Rattle.vfs_model.specs.World.{AreInOrder}
-use Rattle.vfs_model.specs.Snapshot.{Snapshot, Missing, Dir, Children, Nothing, Child, child, children_of, names_of, ArePresent, IsListing, IsTree}
+use Rattle.vfs_model.specs.Snapshot.{Snapshot, Missing, File, Dir, Children, Nothing, Child, child, children_of, names_of, ArePresent, IsListing, IsTree}
 use Rattle.vfs_model.specs.Fingerprint.{digest_of, digest_bytes, four_bytes, kind_byte}
 use Rattle.vfs_laws.proofs.Splits.{split}
 use Rattle.vfs_laws.proofs.NameLemmas.{order-trans}
@@ -68,8 +68,14 @@ listing-followed_by case cs n s listing there last room =
 
 -- ---- a directory of trees is a tree
 
-missing-tree : (case : Case) → IsTree case Missing
+-- what is missing is a tree
+pub missing-tree : (case : Case) → IsTree case Missing
 missing-tree case x = subst (λ s. IsListing case (children_of s)) (sym (sub-missing case x)) (record { order = tt; few = omega arith; present = tt })
+
+-- and so is a file
+pub file-tree : (case : Case) (digest : List ℕ) → IsTree case (File digest)
+file-tree case digest [] = record { order = tt; few = omega arith; present = tt }
+file-tree case digest (n ∷ x) = missing-tree case x
 
 child-tree : (case : Case) (cs : Children) (n : Name) → AreTrees case cs → IsTree case (child case cs n)
 child-tree case Nothing n trees = missing-tree case

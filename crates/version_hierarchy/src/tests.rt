@@ -1,8 +1,11 @@
 //! Versions after invalidations.
 
+ghost use Rattle.std.specs.Prelude.{◌≡◌};
+
 use crate::{FlatVersions, Versions};
 use case_order::Case;
 use std::alloc::Global;
+use std::process::Abort;
 use std::test::Fail;
 use vfs_path::Path;
 
@@ -12,24 +15,32 @@ fn at<V: Versions>(alloc: Global, versions: &V, text: &str) -> Result<u64, Fail>
     Ok(versions.at(&path))
 }
 
-#[test]
-fn versions_are_of_what_is_related(rt: HostRuntime) -> Result<(), Fail> {
-    let alloc = rt.alloc();
-    let none = FlatVersions::new(alloc, Case::Insensitive);
+/// Raises `/a` and then `/A/b`, and asserts the versions of each of the three values in the end.
+fn assert_raised<V: Versions + Drop>(rt: &impl Abort, alloc: Global, none: &V) -> Result<(), Fail>
+    requires { V.count none.now ≡ 0 }
+{
     let one = none.raised(&Path::parse(alloc, b"/a")?)?;
     let two = one.raised(&Path::parse(alloc, b"/A/b")?)?;
     for (text, after_one, after_two) in [
         ("/a/b/c", 1, 2),
         ("/a", 1, 2),
         ("/a/x", 1, 1),
+        ("/ab", 0, 0),
         ("/b", 0, 0),
         ("/", 1, 2),
     ] {
-        assert_eq!(rt; at(alloc, &none, text)?, 0, "{text}");
+        assert_eq!(rt; at(alloc, none, text)?, 0, "{text}");
         assert_eq!(rt; at(alloc, &one, text)?, after_one, "{text}");
         assert_eq!(rt; at(alloc, &two, text)?, after_two, "{text}");
     }
-    assert_eq!(rt; two.count(), 2);
+    assert_eq!(rt; (none.count(), one.count(), two.count()), (0, 1, 2));
     assert_eq!(rt; two.case(), Case::Insensitive);
     Ok(())
+}
+
+#[test]
+fn versions_are_of_what_is_related(rt: HostRuntime) -> Result<(), Fail> {
+    let alloc = rt.alloc();
+    let none = FlatVersions::new(alloc, Case::Insensitive);
+    assert_raised(&rt, alloc, &none)
 }

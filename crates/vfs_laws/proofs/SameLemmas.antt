@@ -102,8 +102,17 @@ deep-both case v w from to h t =
     let m = deep-at case v from to t in
     at-deep case w from to (record { spot = m.spot; here = λ n. m.here (none-node (at case w m.spot) (at case v m.spot) (sym (h.nodes m.spot)) n); above = m.above; deep = m.deep })
 
-same-sym : (case : Case) (v w : World) → IsSame case v w → IsSame case w v
+-- one world either way
+pub same-sym : (case : Case) (v w : World) → IsSame case v w → IsSame case w v
 same-sym case v w h = record { nodes = λ x. sym (h.nodes x); names = λ x n. sym (h.names x n) }
+
+-- a list is one world with itself
+pub same-refl : (case : Case) (w : World) → IsSame case w w
+same-refl case w = record { nodes = λ x. refl; names = λ x n. refl }
+
+-- what is one world with a second list is one with a third, where these are one world
+pub same-trans : (case : Case) (u v w : World) → IsSame case u v → IsSame case v w → IsSame case u w
+same-trans case u v w h k = record { nodes = λ x. h.nodes x ∙ k.nodes x; names = λ x n. h.names x n ∙ k.names x n }
 
 same-deep : (case : Case) (v w : World) (from to : Path) → IsSame case v w → is_too_deep case v from to ≡ is_too_deep case w from to
 same-deep case v w from to h =
@@ -145,11 +154,12 @@ same-refusal case v w (Move p q) h =
 -- ---- after an edit
 
 -- the same node and the same spelling at a place
-record IsAlike (a b : Option Entry) : Type 0 where
-  node : node_of a ≡ node_of b
-  name : spelling_of a ≡ spelling_of b
+pub record IsAlike (a b : Option Entry) : Type 0 where
+  pub node : node_of a ≡ node_of b
+  pub name : spelling_of a ≡ spelling_of b
 
-alike : (a b : Option Entry) → a ≡ b → IsAlike a b
+-- what is equal is alike
+pub alike : (a b : Option Entry) → a ≡ b → IsAlike a b
 alike a b e = record { node = ap node_of e; name = ap spelling_of e }
 
 -- a path is empty, or it has a last name
@@ -173,7 +183,8 @@ root-name : (case : Case) (world : World) (o : Option Entry) → at case world [
 root-name case world None is = refl
 root-name case world (Some e) is = ap Some (empty-place case e.path (found-place case world [] e is))
 
-alike-at : (case : Case) (v w : World) (y : Path) → IsSame case v w → IsAlike (at case v y) (at case w y)
+-- in two lists that are one world what is at a place is alike, the root too
+pub alike-at : (case : Case) (v w : World) (y : Path) → IsSame case v w → IsAlike (at case v y) (at case w y)
 alike-at case v w y h = record {
   node = h.nodes y;
   name = split_or (last_of y)

@@ -4,7 +4,7 @@ use Rattle.std.proofs.lemmas.Bool.{both_ways, true≢false, or_parts, or_from, f
 use Rattle.std.specs.List.{list_any, AllByRecursion as Each}
 use Rattle.vfs_model.specs.declared.Case.{Case}
 use Rattle.vfs_model.specs.Paths.{Name, Path, place, is_at_or_above, is_related}
-use Rattle.vfs_model.specs.World.{World, Entry, Node, Directory, Regular, at, names, IsClosed, Status, IsMissing, IsFile, IsDir, status_of, spelling_of, IsWorld}
+use Rattle.vfs_model.specs.World.{World, Entry, Node, Directory, Regular, at, names, IsClosed, Status, IsMissing, IsFile, IsDir, status_of, IsWorld}
 use Rattle.vfs_model.specs.Edit.{Edit, refusal, is_told, apply, events}
 use Rattle.vfs_model.specs.Snapshot.{Snapshot, IsTree}
 use Rattle.vfs_model.specs.Scan.{Agrees, scan}
@@ -13,11 +13,12 @@ use Rattle.vfs_model.specs.Retained.{Pair, part_of, is_covered, ancestors, known
 use Rattle.vfs_model.specs.Scanning.{Scan, PartialSnapshot, look_of, look_of_node, partial_of_look, IsListed, partial_children, partial_names, Unread, NotThere, FileRead, DirRead, look, next_left, after_look, snapshot_made, decided_status, is_overtaken}
 use Rattle.vfs_model.specs.Fingerprint.{Input, Seen, fingerprint}
 use Rattle.vfs_model.specs.State.{KeptPrint, State, after_edit, after_event, after_loss, after_clear, after_delivery, is_touched, with_scan, look_below, open_scan, scan_of, after_begin, after_read, after_close, after_publish, after_fingerprint, seen_or, seen_inputs}
-use Rattle.vfs_model.specs.Sound.{is_hit_in, IsCurrent, IsStillDir, above_scan, IsTrueScan, IsTrueSlot, root_pair, IsTrueKept, IsTrue, IsSettled, IsScanned, scanned_input}
+use Rattle.vfs_model.specs.Sound.{is_hit_in, IsCurrent, IsStillDir, above_scan, IsTelling, IsTrueScan, IsTrueSlot, root_pair, IsTrueKept, IsTrue, IsSettled, IsScanned, scanned_input}
 use Rattle.vfs_laws.proofs.Splits.{split, split_or}
 use Rattle.vfs_laws.proofs.PathLemmas.{same_name-refl, at_or_above-trans}
 use Rattle.vfs_laws.proofs.NameLemmas.{each-weaker}
 use Rattle.vfs_laws.proofs.EditLemmas.{apply-elsewhere}
+use Rattle.vfs_laws.proofs.SameLemmas.{IsAlike, alike, status-node}
 use Rattle.vfs_laws.proofs.FewLemmas.{accepted-world}
 use Rattle.vfs_laws.proofs.ScanLemmas.{agreeing-scan}
 use Rattle.vfs_laws.proofs.FindLemmas.{part-from}
@@ -28,46 +29,49 @@ use Rattle.vfs_laws.proofs.ScanningLemmas.{nowhere, partial_at-unread, told-unre
 
 -- ---- the events that wait
 
--- a step after which fewer places are free of events, and what is at those stays
-record IsQuieter (case : Case) (before after : Path → Bool) (old new : World) : Type 0 where
-  free : (x : Path) → after x ≡ false → before x ≡ false
-  same : (x : Path) → after x ≡ false → at case new x ≡ at case old x
+-- a step after which fewer places are free of events, and the same stands at those, spelled the same
+pub record IsQuieter (case : Case) (before after : Path → Bool) (old new : World) : Type 0 where
+  pub free : (x : Path) → after x ≡ false → before x ≡ false
+  pub same : (x : Path) → after x ≡ false → IsAlike (at case new x) (at case old x)
 
-current-kept : (case : Case) (before after : Path → Bool) (old new : World) → IsQuieter case before after old new → (r : Pair) → IsCurrent case before old r → IsCurrent case after new r
+-- the status at a place that is free afterwards is the one before
+status-kept : (case : Case) (before after : Path → Bool) (old new : World) → IsQuieter case before after old new → (x : Path) → after x ≡ false → status_of (at case new x) ≡ status_of (at case old x)
+status-kept case before after old new quieter x miss = status-node _ _ (quieter.same x miss).node
+
+-- what agrees with the world before such a step agrees with it afterwards
+pub current-kept : (case : Case) (before after : Path → Bool) (old new : World) → IsQuieter case before after old new → (r : Pair) → IsCurrent case before old r → IsCurrent case after new r
 current-kept case before after old new quieter r current x miss =
     let h = current x (quieter.free _ miss) in
-    let same = quieter.same (r.path ++ x) miss in
     record {
-      same_kind = h.same_kind ∙ ap status_of (sym same);
-      same_spelling = λ n e. ap spelling_of same ∙ h.same_spelling n e;
+      same_kind = h.same_kind ∙ sym (status-kept case before after old new quieter (r.path ++ x) miss);
+      same_spelling = λ n e. (quieter.same (r.path ++ x) miss).name ∙ h.same_spelling n e;
     }
 
-still-kept : (case : Case) (before after : Path → Bool) (old new : World) → IsQuieter case before after old new → (d : Path) → IsStillDir case before old d → IsStillDir case after new d
-still-kept case before after old new quieter d still miss = ap status_of (quieter.same d miss) ∙ still (quieter.free d miss)
+-- what is a directory before such a step is one afterwards
+pub still-kept : (case : Case) (before after : Path → Bool) (old new : World) → IsQuieter case before after old new → (d : Path) → IsStillDir case before old d → IsStillDir case after new d
+still-kept case before after old new quieter d still miss = status-kept case before after old new quieter d miss ∙ still (quieter.free d miss)
 
-scan-kept : (case : Case) (before after : Path → Bool) (old new : World) (past : List Path) → IsQuieter case before after old new → (s : Scan) → IsTrueScan case before old past s → IsTrueScan case after new past s
-scan-kept case before after old new past quieter s h = record {
-  begun_at = h.begun_at;
-  telling = record {
-    partial = h.partial;
-    shallow = h.shallow;
-    front = h.front;
-    tells = λ o x miss.
-        let t = h.tells o x (quieter.free _ miss) in
-        let same = quieter.same (place case s.path ++ x) miss in
-        record {
-          kind = λ g e. t.kind g e ∙ ap status_of (sym same);
-          spelling = λ n e. ap spelling_of same ∙ t.spelling n e;
-        };
-    above = λ o. each-weaker _ _ (still-kept case before after old new quieter) _ (h.above o);
-  };
+-- what a scan tells before such a step it tells afterwards
+pub telling-kept : (case : Case) (before after : Path → Bool) (old new : World) → IsQuieter case before after old new → (overtaken : Bool) (p : Path) (t : PartialSnapshot) → IsTelling case before old overtaken p t → IsTelling case after new overtaken p t
+telling-kept case before after old new quieter overtaken p t h = record {
+  partial = h.partial;
+  shallow = h.shallow;
+  front = h.front;
+  tells = λ o x miss.
+      let told = h.tells o x (quieter.free _ miss) in
+      record {
+        kind = λ g e. told.kind g e ∙ sym (status-kept case before after old new quieter (p ++ x) miss);
+        spelling = λ n e. (quieter.same (p ++ x) miss).name ∙ told.spelling n e;
+      };
+  above = λ o. each-weaker _ _ (still-kept case before after old new quieter) _ (h.above o);
 }
 
 slot-kept : (case : Case) (before after : Path → Bool) (old new : World) (past : List Path) → IsQuieter case before after old new → (s : Option Scan) → IsTrueSlot case before old past s → IsTrueSlot case after new past s
 slot-kept case before after old new past quieter None h = tt
-slot-kept case before after old new past quieter (Some s) h = scan-kept case before after old new past quieter s h
+slot-kept case before after old new past quieter (Some s) h = record { begun_at = h.begun_at; telling = telling-kept case before after old new quieter (is_overtaken case past s) (place case s.path) s.partial h.telling }
 
-kept-kept : (case : Case) (before after : Path → Bool) (old new : World) → IsQuieter case before after old new → (k : KeptPrint) → IsTrueKept case before old k → IsTrueKept case after new k
+-- a kept fingerprint that is true before such a step is true afterwards
+pub kept-kept : (case : Case) (before after : Path → Bool) (old new : World) → IsQuieter case before after old new → (k : KeptPrint) → IsTrueKept case before old k → IsTrueKept case after new k
 kept-kept case before after old new quieter k h = record {
   digest = h.digest;
   trees = h.trees;
@@ -111,11 +115,11 @@ put_all-free case (e ∷ es) p x h =
 
 -- an event more keeps what is known true
 pub after_event-sound : (s : State) (e : Path) → IsTrue s → IsTrue (after_event s e)
-after_event-sound s e h = quieter-sound s (put e s.pending) s.world (record { free = λ x m. (put-free s.case e s.pending x m).0; same = λ x m. refl }) h.world h
+after_event-sound s e h = quieter-sound s (put e s.pending) s.world (record { free = λ x m. (put-free s.case e s.pending x m).0; same = λ x m. alike _ _ refl }) h.world h
 
 -- a loss keeps what is known true
 pub after_loss-sound : (s : State) → IsTrue s → IsTrue (after_loss s)
-after_loss-sound s h = quieter-sound s _ s.world (record { free = λ x m. absurd (true≢false m); same = λ x m. refl }) h.world h
+after_loss-sound s h = quieter-sound s _ s.world (record { free = λ x m. absurd (true≢false m); same = λ x m. alike _ _ refl }) h.world h
 
 -- an edit that is not refused, with its events, keeps what is known true
 pub after_edit-sound : (s : State) (edit : Edit) → refusal s.case s.world edit ≡ None → Each (λ (p : Path). length p ≤ 64) (events edit) → IsTrue s → IsTrue (after_edit s edit (events edit))
@@ -123,7 +127,7 @@ after_edit-sound s edit accepted few h =
     quieter-sound s (put_all (events edit) s.pending) (apply s.case s.world edit)
     (record {
       free = λ x m. (put_all-free s.case (events edit) s.pending x m).0;
-      same = λ x m. apply-elsewhere s.case s.world edit x (put_all-free s.case (events edit) s.pending x m).1;
+      same = λ x m. alike _ _ (apply-elsewhere s.case s.world edit x (put_all-free s.case (events edit) s.pending x m).1);
     })
     (accepted-world s.case s.world edit accepted few h.world)
     h
@@ -447,7 +451,7 @@ pub settled-scanned : (s : State) → IsSettled s → IsTrue s → IsScanned s
 settled-scanned s settled h = record {
   pairs = each-both _ _ _ (current-scanned s settled h) s.retained.pairs h.shape.trees h.pairs;
   dirs = each-weaker _ _ (λ d t. t (no_hit s settled d)) s.retained.dirs h.dirs;
-  kept = each-weaker _ _ (λ k t. t.digest ∙ ap (fingerprint s.case) (by k.seen t.trees t.current)) s.kept h.kept;
+  prints = each-weaker _ _ (λ k t. t.digest ∙ ap (fingerprint s.case) (by k.seen t.trees t.current)) s.kept h.kept;
 }
   where
     by : (seen : List Seen) → Each (λ (v : Seen). IsTree s.case v.snapshot) seen → Each (λ (v : Seen). IsCurrent s.case (is_hit_in s) s.world (root_pair s.case v)) seen → seen ≡ map (scanned_input s.case s.world) (map (λ (v : Seen). v.input) seen)

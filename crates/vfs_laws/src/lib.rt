@@ -3,7 +3,7 @@
 //! The definitions and words are those of `vfs_model`; docs/MODEL.md tells them in plain words.
 #![tactic(auto)]
 
-ghost use Rattle.std.specs.Prelude.{[], ◌∷◌, ◌≡◌, ◌≢◌, ◌≤◌, None, ◌++◌, ◌<◌, ◌↔◌, ℕ, List, Some, true, false, length, drop};
+ghost use Rattle.std.specs.Prelude.{[], ◌∷◌, ◌≡◌, ◌≢◌, ◌≤◌, None, ◌++◌, ◌<◌, ◌↔◌, ℕ, List, Some, true, false, length, drop, is_some};
 ghost use Rattle.std.specs.List.{list_any, AllByRecursion as Each};
 ghost use Rattle.std.specs.declared.cmp.Ordering.TheVariants.{Less};
 ghost use Rattle.vfs_model.specs.declared.Kind.TheVariants.{Dir as DirKind};
@@ -16,10 +16,11 @@ ghost use Rattle.vfs_model.specs.Pending.{version};
 ghost use Rattle.vfs_model.specs.Retained.{Pair, Retained, kind_of, part_of, all_pairs_left, after_store, is_covered, AreInLine, IsInShape, after_invalidation};
 ghost use Rattle.vfs_model.specs.Scanning.{Scan, is_overtaken, Unread, Look, PartialSnapshot, IsFront, look, count_left, next_left, after_look, partial_of_look, contents, walk_of, after_looks, walk_after, first_walk, looks_of, first_of, locations_left, decided_status, partial_at, decided_status_by, IsPartialTree, Reading, readings, path_order};
 ghost use Rattle.vfs_model.specs.Fingerprint.{AreDigests, digest_bytes, lines, Input, Seen, Relative, fingerprint};
-ghost use Rattle.vfs_model.specs.State.{State, Call, CallBegin, CallPublish, Answers, Version, Stale, AreDue, answers, step, after_begin, scan_of};
+ghost use Rattle.vfs_model.specs.State.{State, Call, CallBegin, CallPublish, Answers, Reply, Version, Stale, AreDue, answers, step, after_begin, scan_of};
 ghost use Rattle.vfs_model.specs.History.{own_partial, after_operation, IsLegalOperation, opening, empty_world, IsOpening, changes, after_changes, Operation, after, IsCall, IsLegal, KeepsOpen, is_stale, is_invalidated_in, is_scan_overtaken};
-ghost use Rattle.vfs_model.specs.Sound.{AreLooks, IsShaped, IsInLimits, IsTrue, IsSound, IsSettled, IsScanned, fingerprint_of};
-ghost use Rattle.vfs_model.specs.Stands.{StandsFor, RunningScan, Parts, IsScanOf, Stands, has_grown, KnowsTruth};
+ghost use Rattle.vfs_model.specs.Sound.{AreLooks, IsShaped, IsInLimits, IsTrue, IsSound, IsSettled, IsScanned, AreScanned, fingerprint_of};
+ghost use Rattle.vfs_model.specs.Stands.{StandsFor, RunningScan, Parts, IsScanOf, Stands, HasSound, has_grown, KnowsTruth};
+ghost use Rattle.vfs_model.specs.Steps.{IsStepOf};
 
 use vfs_model::Case;
 
@@ -204,4 +205,20 @@ pub fn machines_know_what_states_know<V>()
     ensures overtaken { (case : Case) (at : Path → ℕ) (count : ℕ) (past : List Path) (r : RunningScan) (s : Scan) → StandsFor at count past → IsScanOf case past r s → is_overtaken case past s ≡ has_grown at case r }
     ensures machine { (at : V → Path → ℕ) (count : V → ℕ) (m : Parts V) (s : State) → Stands at count m s → IsTrue s → KnowsTruth at m s.world }
     ensures state { (at : V → Path → ℕ) (count : V → ℕ) (m : Parts V) (s : State) → Stands at count m s → KnowsTruth at m s.world → IsTrue s }
+{}
+
+/// Each step of a call that may be made keeps a machine sound, where the looks of its tree list names as looks do and, as long as the tree tells its content, what it answers is true of that; and whether it tells it stays.
+pub fn machines_stay_sound<V>()
+    ensures { (at : V → Path → ℕ) (count : V → ℕ) (old new : Parts V) (a : Answers) (call : Call) (r : Reply) → IsCall call → is_some new.content ≡ is_some old.content → ((s : State) → Stands at count old s → AreLooks s call a) → ((w : World) → old.content ≡ Some w → (s : State) → Stands at count old s → AreDue s call a) → IsStepOf at count old new a call r → HasSound at count old → HasSound at count new }
+{}
+
+/// What a sound machine knows is true of the content that its tree tells; and so each state that it stands for, whose world is one, is sound.
+pub fn sound_machines_know_the_truth<V>()
+    ensures truth { (at : V → Path → ℕ) (count : V → ℕ) (m : Parts V) (w : World) → m.content ≡ Some w → IsWorld m.case w → HasSound at count m → KnowsTruth at m w }
+    ensures states { (at : V → Path → ℕ) (count : V → ℕ) (m : Parts V) (w : World) (s : State) → m.content ≡ Some w → Stands at count m s → IsWorld s.case s.world → HasSound at count m → IsSound s }
+{}
+
+/// Where nothing waits, all that a sound machine knows is what a scan of the content gives that its tree tells.
+pub fn settled_machines_are_scanned<V>()
+    ensures { (at : V → Path → ℕ) (count : V → ℕ) (m : Parts V) (w : World) → m.content ≡ Some w → IsWorld m.case w → m.pending.events ≡ [] → m.pending.mark ≡ false → HasSound at count m → AreScanned m.case w m.retained m.kept }
 {}

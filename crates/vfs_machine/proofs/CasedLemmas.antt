@@ -1,15 +1,22 @@
 -- Scans with the cases of their walks, and the scans alone.
-use Rattle.std.proofs.Common.{◌≡◌, ℕ, Bool, zero, suc, List, [], ◌∷◌, Option, Some, None, IfSome, is_some, option_map, slice_set, true, refl, sym, ap, ◌∙◌, subst}
+use Rattle.std.proofs.Common.{◌≡◌, ◌<◌, ℕ, Bool, zero, suc, List, [], ◌∷◌, length, get_or, arith, Option, Some, None, IfSome, is_some, option_map, slice_set, true, refl, sym, ap, ◌∙◌, subst}
 use Rattle.std.specs.List.{AllByRecursion as Each}
 use Rattle.vfs_model.specs.declared.Case.{Case}
 use Rattle.vfs_model.specs.Scanning.{Look, count_left, after_look}
 use Rattle.vfs_model.specs.Stands.{RunningScan}
 use Rattle.vfs_laws.proofs.SoundLemmas.{each-set}
-use Rattle.publish_core.specs.declared.vfs.Published.{Published}
-use Rattle.publish_core.specs.declared.vfs.Published.TheVariants as answer
+use Rattle.publish_core.specs.declared.published.Published.{Published}
+use Rattle.publish_core.specs.declared.published.Published.TheVariants as answer
 use Rattle.vfs_machine.specs.Cased.{CasedScan, running_of, scans_in, cased_at, IsUnder}
 use Rattle.vfs_machine.specs.Scans.{running_at, cased_after, scan_after, IsShapedRunning}
 use Rattle.vfs_machine.specs.Publish.{scans_after}
+
+-- the scan that is read at the number is the one with the number
+pub cased-read : (xs : List (Option CasedScan)) (c : ℕ) (o : Option CasedScan) → c < length xs → o ≡ get_or xs c o → cased_at xs c ≡ o
+cased-read [] c o h is = absurd (omega (arith, h))
+cased-read (None ∷ xs) zero o h is = sym is
+cased-read (Some s ∷ xs) zero o h is = sym is
+cased-read (x ∷ xs) (suc c) o h is = cased-read xs c o (omega (arith, h)) is
 
 -- the scan with the number, seen alone
 pub running-is : (xs : List (Option CasedScan)) (c : ℕ) → running_at (scans_in xs) c ≡ running_of (cased_at xs c)

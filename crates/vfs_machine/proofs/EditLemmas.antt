@@ -1,23 +1,22 @@
 -- A machine that stands for a state still does after an edit.
-use Rattle.std.proofs.Common.{◌≡◌, ℕ, Bool, List, [], ◌∷◌, ◌++◌, Option, Some, None, refl, sym, ap, ◌∙◌, subst, if◌then◌else◌}
+use Rattle.std.proofs.Common.{◌≡◌, ℕ, Bool, true, false, List, [], ◌∷◌, ◌++◌, Option, Some, None, refl, sym, ap, ◌∙◌, subst, if◌then◌else◌}
 use Rattle.vfs_model.specs.declared.Case.{Case}
 use Rattle.vfs_model.specs.Paths.{Path}
 use Rattle.vfs_model.specs.World.{World, IsClosed, IsWorld, IsSameBelow, at as at_place}
 use Rattle.vfs_model.specs.Edit.{Edit, Refusal, refusal, apply, events}
 use Rattle.vfs_model.specs.Pending.{Pending, put_all}
-use Rattle.vfs_model.specs.State.{State, Reply, Done, Overflow, Refused, EditAnswer, Does, CallEdit, all_fit, after_edit, edit_by, edit_answer, edit_answer_or}
+use Rattle.vfs_model.specs.State.{State, TreeAnswer, CallEdit, EditAnswer, Reply, Done, Overflow, Does, all_fit, after_edit, edit_by, edit_answer, edit_answer_or}
+use Rattle.vfs_model.specs.History.{is_no_memory}
 use Rattle.vfs_model.specs.Stands.{Parts, Stands}
 use Rattle.world_model.specs.Meaning.{refusal_of}
 use Rattle.world_model.specs.Told.{IsApplied}
 use Rattle.vfs_machine.specs.declared.answers.Edited.{Edited}
 use Rattle.vfs_machine.specs.declared.answers.Edited.TheVariants as edited
-use Rattle.vfs_machine.specs.Steps.{IsOutcome, IsStepOf, IsToldStepOf, edit_given, edit_answers, edited_reply}
-use Rattle.vfs_laws.proofs.SameLemmas.{none-node, status-node, same-refusal, same-apply}
+use Rattle.vfs_model.specs.Steps.{IsOutcome, IsStepOf, IsToldStepOf, is_before_memory}
+use Rattle.vfs_machine.specs.Steps.{edit_given, edit_answers, edited_reply}
+use Rattle.vfs_laws.proofs.SameLemmas.{none-node, status-node, same-refusal, same-apply, same-trans}
 
 -- ---- one world in two lists
-
-same-trans : (case : Case) (u v w : World) → IsSameBelow case u [] v [] → IsSameBelow case v [] w [] → IsSameBelow case u [] w []
-same-trans case u v w h k = record { nodes = λ x. h.nodes x ∙ k.nodes x; names = λ x n. h.names x n ∙ k.names x n }
 
 -- a list that is one world with a closed one is closed
 same-closed : (case : Case) (v w : World) → IsSameBelow case v [] w [] → IsClosed case w → IsClosed case v
@@ -42,10 +41,10 @@ applied-world case s edit (Some w) (Some u) done whole allowed same v e =
     (subst (λ (z : World). IsSameBelow case (apply case w edit) [] z []) is done)
 
 -- an edit that was done
-edited-stands : {V : Type 0} (at : V → Path → ℕ) (count : V → ℕ) (m : Parts V) (s : State) (edit : Edit) (f : ℕ) (k : Option World) (q : Pending)
+edited-stands : {V : Type 0} (at : V → Path → ℕ) (count : V → ℕ) (m : Parts V) (s : State) (edit : Edit) (f : ℕ) (k : Option World) (given : Option (List TreeAnswer)) (q : Pending)
     → IsApplied m.case edit m.content k → ((w : World) → m.content ≡ Some w → IsWorld m.case w) → ((w : World) → m.content ≡ Some w → refusal m.case w edit ≡ None) → q ≡ put_all (events edit) m.pending
-    → Stands at count m s → Stands at count (record m { faults = f; content = k; pending = q }) (after_edit s edit (events edit))
-edited-stands at count m s edit f k q done whole allowed queue st = record {
+    → Stands at count m s → Stands at count (record m { faults = f; content = k; answers = given; pending = q }) (after_edit s edit (events edit))
+edited-stands at count m s edit f k given q done whole allowed queue st = record {
   case = st.case;
   world = λ v h. subst (λ (c : Case). IsSameBelow m.case (apply c s.world edit) [] v []) (sym st.case) (applied-world m.case s.world edit m.content k done whole allowed st.world v h);
   pending = ap (put_all (events edit)) st.pending ∙ sym queue;
@@ -60,38 +59,53 @@ abbrev done_reply : Bool → Reply
 done_reply fit = if fit then Done else Overflow
 
 -- the edit was done
-pub edit-done : {V : Type 0} (at : V → Path → ℕ) (count : V → ℕ) (m : Parts V) (s : State) (edit : Edit) (fit : Bool) (f : ℕ) (k : Option World) (q : Pending) (told : List Path)
+pub edit-done : {V : Type 0} (at : V → Path → ℕ) (count : V → ℕ) (m : Parts V) (s : State) (edit : Edit) (fit : Bool) (f : ℕ) (k : Option World) (given : Option (List TreeAnswer)) (q : Pending) (told : List Path)
     → told ≡ events edit → fit ≡ all_fit told m.pending → q ≡ put_all told m.pending
     → IsApplied m.case edit m.content k → ((w : World) → m.content ≡ Some w → IsWorld m.case w) → ((w : World) → m.content ≡ Some w → refusal m.case w edit ≡ None)
     → Stands at count m s
-    → ((if fit then Done else Overflow) ≡ (edit_by s edit (Does (events edit))).reply) × Stands at count (record m { faults = f; content = k; pending = q }) (edit_by s edit (Does (events edit))).state
-edit-done at count m s edit fit f k q told is fits queue done whole allowed st = (
+    → ((if fit then Done else Overflow) ≡ (edit_by s edit (Does (events edit))).reply) × Stands at count (record m { faults = f; content = k; answers = given; pending = q }) (edit_by s edit (Does (events edit))).state
+edit-done at count m s edit fit f k given q told is fits queue done whole allowed st = (
   ap (λ (b : Bool). if b then Done else Overflow) (fits ∙ (λ i. all_fit (is i) (sym st.pending i))),
-  edited-stands at count m s edit f k q done whole allowed (queue ∙ ap (λ e. put_all e m.pending) is) st,
+  edited-stands at count m s edit f k given q done whole allowed (queue ∙ ap (λ e. put_all e m.pending) is) st,
 )
 
--- the tree's word to the edit was this one
+-- the tree's word to the edit was this one; memory was wanting only where it did not refuse
 abbrev pub IsDueAnswer : Option Refusal → Edited → Type 0
 IsDueAnswer due edited.Done = due ≡ None
 IsDueAnswer due edited.Overflow = due ≡ None
 IsDueAnswer due (edited.Refused e) = due ≡ Some (refusal_of e)
-IsDueAnswer due edited.NoMemory = Unit {0}
+IsDueAnswer due edited.NoMemory = due ≡ None
 
-told-by : {V : Type 0} (at : V → Path → ℕ) (count : V → ℕ) (new : Parts V) (e : Edit) (s : State) (result : Edited) → IsDueAnswer (refusal s.case s.world e) result
-    → IsOutcome (edited_reply result) s (edit_by s e (edit_given e result)) (Stands at count new)
-    → IsOutcome (edited_reply result) s (edit_by s e (edit_answer s e)) (Stands at count new)
-told-by at count new e s edited.Done due h = subst (λ (a : EditAnswer). (Done ≡ (edit_by s e a).reply) × Stands at count new (edit_by s e a).state) (sym (ap (edit_answer_or e) due)) h
-told-by at count new e s edited.Overflow due h = subst (λ (a : EditAnswer). (Overflow ≡ (edit_by s e a).reply) × Stands at count new (edit_by s e a).state) (sym (ap (edit_answer_or e) due)) h
-told-by at count new e s (edited.Refused r) due h = subst (λ (a : EditAnswer). (Refused (refusal_of r) ≡ (edit_by s e a).reply) × Stands at count new (edit_by s e a).state) (sym (ap (edit_answer_or e) due)) h
-told-by at count new e s edited.NoMemory due h = h
+given-is : (due : Option Refusal) (e : Edit) (result : Edited) → IsDueAnswer due result → edit_given e result ≡ edit_answer_or e due
+given-is due e edited.Done h = sym (ap (edit_answer_or e) h)
+given-is due e edited.Overflow h = sym (ap (edit_answer_or e) h)
+given-is due e (edited.Refused r) h = sym (ap (edit_answer_or e) h)
+given-is due e edited.NoMemory h = sym (ap (edit_answer_or e) h)
 
 due-for : (case : Case) (s : State) (w : World) (e : Edit) (result : Edited) → s.case ≡ case → IsSameBelow case s.world [] w [] → IsDueAnswer (refusal case w e) result → IsDueAnswer (refusal s.case s.world e) result
 due-for case s w e result c same due =
     subst (λ (r : Option Refusal). IsDueAnswer r result) (sym ((λ i. refusal (c i) s.world e) ∙ same-refusal case s.world w e same)) due
 
--- over a told world the edit is the model's own step
+-- over a told world the tree's word is true of each state
+pub edit-due : {V : Type 0} (at : V → Path → ℕ) (count : V → ℕ) (m : Parts V) (e : Edit) (result : Edited) → ((w : World) → m.content ≡ Some w → IsDueAnswer (refusal m.case w e) result)
+    → (w : World) → m.content ≡ Some w → (s : State) → Stands at count m s → edit_given e result ≡ edit_answer s e
+edit-due at count m e result due w told s st = given-is (refusal s.case s.world e) e result (due-for m.case s w e result st.case (st.world w told) (due w told))
+
+-- and so the edit is the model's own step
 pub edit-told : {V : Type 0} (at : V → Path → ℕ) (count : V → ℕ) (old new : Parts V) (e : Edit) (result : Edited)
-    → IsStepOf at count old new (edit_answers e result) (CallEdit e) (edited_reply result) → ((w : World) → old.content ≡ Some w → IsDueAnswer (refusal old.case w e) result)
+    → IsStepOf at count old new (edit_answers e result) (CallEdit e) (edited_reply result)
+    → ((w : World) → old.content ≡ Some w → (s : State) → Stands at count old s → edit_given e result ≡ edit_answer s e)
     → IsToldStepOf at count old new (CallEdit e) (edited_reply result)
 edit-told at count old new e result step due w told s st =
-    told-by at count new e s result (due-for old.case s w e result st.case (st.world w told) (due w told)) (step s st)
+    subst (λ (a : EditAnswer). IsOutcome (edited_reply result) s (edit_by s e a) (Stands at count new)) (due w told s st) (step s st)
+
+done-wanting : (fit : Bool) → is_before_memory (done_reply fit) ≡ false
+done-wanting true = refl
+done-wanting false = refl
+
+-- memory was wanting only where the edit is not refused
+pub edit-last : (s : State) (e : Edit) (result : Edited) → edit_given e result ≡ edit_answer s e → is_no_memory (edited_reply result) ≡ true → is_before_memory (edit_by s e (edit_answer s e)).reply ≡ false
+edit-last s e edited.Done due none = cc
+edit-last s e edited.Overflow due none = cc
+edit-last s e (edited.Refused r) due none = cc
+edit-last s e edited.NoMemory due none = subst (λ (a : EditAnswer). is_before_memory (edit_by s e a).reply ≡ false) due (done-wanting (all_fit (events e) s.pending))

@@ -6,3 +6,5 @@ pub mod ReadLemmas
 pub mod EditLemmas
 pub mod PutLemmas
 pub mod PublishLemmas
+pub mod ToldLemmas
+pub mod StaleLemmas

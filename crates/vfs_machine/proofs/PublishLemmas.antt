@@ -1,22 +1,25 @@
 -- A machine that stands for a state still does after a publication.
-use Rattle.std.proofs.Common.{◌≡◌, ℕ, ◌<◌, ◌≤◌, Bool, true, false, List, [], ◌∷◌, ◌++◌, length, take, drop, Option, Some, None, option_map, slice_set, refl, sym, ap, ◌∙◌, subst, arith}
-use Rattle.std.proofs.lemmas.List.{take-append-drop}
-use Rattle.std.specs.List.{list_any}
-use Rattle.vfs_model.specs.Paths.{Path, place, is_related}
+use Rattle.std.proofs.Common.{◌≡◌, ℕ, ◌<◌, ◌≤◌, Bool, true, false, List, [], ◌∷◌, length, Option, Some, None, option_map, slice_set, refl, sym, ap, ◌∙◌, subst, arith}
+use Rattle.std.proofs.lemmas.Bool.{true≢false, ltb-true, ltb-false}
+use Rattle.vfs_model.specs.Paths.{Path, place}
 use Rattle.vfs_model.specs.declared.Case.{Case}
 use Rattle.vfs_model.specs.Pending.{version}
 use Rattle.vfs_model.specs.Retained.{Retained, is_covered, after_store}
 use Rattle.vfs_model.specs.Scanning.{Scan, PartialSnapshot, next_left, count_left, snapshot_made, is_overtaken, locations_left, first_of}
-use Rattle.vfs_model.specs.State.{State, Reply, NoScan, Unfinished, Stale, Covered, Stored, scan_of, publish_or, publish_next, publish_done, publish_when}
-use Rattle.vfs_model.specs.Stands.{StandsFor, RunningScan, Parts, Stands, IsScanOf, IsSlotOf}
+use Rattle.vfs_model.specs.State.{State, CallPublish, Reply, NoScan, Unfinished, Stale, Covered, Stored, scan_of, publish_or, publish_next, publish_done, publish_when}
+use Rattle.vfs_model.specs.History.{Kept, ChangeLog, with_changes, change_kept, changes_of, is_no_memory}
+use Rattle.vfs_model.specs.Stands.{RunningScan, Parts, Stands, IsScanOf, IsSlotOf, has_grown}
 use Rattle.vfs_laws.proofs.WalkLemmas.{locations_left-next_left, locations_left-count_left}
-use Rattle.publish_core.specs.declared.vfs.Published.{Published}
-use Rattle.publish_core.specs.declared.vfs.Published.TheVariants as answer
-use Rattle.publish_core.specs.Publication.{retained_after}
-use Rattle.publish_core.proofs.SinceLemmas.{since-stale, since-fresh}
+use Rattle.publish_core.specs.declared.published.Published.{Published}
+use Rattle.publish_core.specs.declared.published.Published.TheVariants as answer
+use Rattle.publish_core.specs.Publication.{IsAnswer, retained_after}
+use Rattle.snapshot_hierarchy.specs.Held.{Held}
+use Rattle.vfs_laws.proofs.Splits.{split}
+use Rattle.vfs_laws.proofs.StandsLemmas.{overtaken-grown}
 use Rattle.vfs_machine.specs.Scans.{running_at, AreDigests, AreContentsOf, IsDone}
-use Rattle.vfs_machine.specs.Publish.{IsAnswered, IsPublished, published_reply, scans_after}
-use Rattle.vfs_machine.specs.Steps.{IsOutcome}
+use Rattle.vfs_machine.specs.Publish.{IsPublished, published_reply, scans_after}
+use Rattle.vfs_machine.specs.Whole.{held_of}
+use Rattle.vfs_model.specs.Steps.{IsOutcome, is_before_memory}
 use Rattle.vfs_machine.proofs.SlotLemmas.{slot-of, slots-set}
 
 -- ---- what is left
@@ -41,24 +44,25 @@ some-left s h = let f = first-some (locations_left s) (subst (λ (n : ℕ). 0 < 
 where_is : {V : Type 0} (at : V → Path → ℕ) (count : V → ℕ) (m : Parts V) (s : State) (r : RunningScan) (t : Scan) → IsScanOf m.case s.past r t → Stands at count m s → place s.case t.path ≡ place m.case r.path
 where_is at count m s r t slot st = λ i. place (st.case i) (slot.path i)
 
-split-past : {V : Type 0} (at : V → Path → ℕ) (count : V → ℕ) (m : Parts V) (s : State) (k : ℕ) → Stands at count m s → StandsFor (at m.versions) (count m.versions) (take k s.past ++ drop k s.past)
-split-past at count m s k st = subst (λ (l : List Path). StandsFor (at m.versions) (count m.versions) l) (sym (take-append-drop k s.past)) st.past
+-- the scan is overtaken exactly where the version of its path has grown
+overtaken-is : {V : Type 0} (at : V → Path → ℕ) (count : V → ℕ) (m : Parts V) (s : State) (r : RunningScan) (t : Scan) → IsScanOf m.case s.past r t → Stands at count m s → is_overtaken s.case s.past t ≡ has_grown (at m.versions) m.case r
+overtaken-is at count m s r t slot st = ap (λ (k : Case). is_overtaken k s.past t) st.case ∙ overtaken-grown m.case (at m.versions) (count m.versions) s.past r t st.past slot
 
 overtaken : {V : Type 0} (at : V → Path → ℕ) (count : V → ℕ) (m : Parts V) (s : State) (r : RunningScan) (t : Scan) → IsScanOf m.case s.past r t → Stands at count m s → r.seen < at m.versions (place m.case r.path)
     → is_overtaken s.case s.past t ≡ true
 overtaken at count m s r t slot st h =
-    ap (λ x. list_any (λ e. is_related e x) (drop t.begun_at s.past)) (where_is at count m s r t slot st)
-    ∙ since-stale (at m.versions) (count m.versions) r.seen (take t.begun_at s.past) (drop t.begun_at s.past) (place m.case r.path) (split-past at count m s t.begun_at st) slot.seen h
+    overtaken-is at count m s r t slot st
+    ∙ split (has_grown (at m.versions) m.case r) (λ grown. grown) (λ fresh. absurd (omega (arith, ltb-false r.seen (at m.versions (place m.case r.path)) fresh, h)))
 
 in-time : {V : Type 0} (at : V → Path → ℕ) (count : V → ℕ) (m : Parts V) (s : State) (r : RunningScan) (t : Scan) → IsScanOf m.case s.past r t → Stands at count m s → at m.versions (place m.case r.path) ≤ r.seen
     → is_overtaken s.case s.past t ≡ false
 in-time at count m s r t slot st h =
-    ap (λ x. list_any (λ e. is_related e x) (drop t.begun_at s.past)) (where_is at count m s r t slot st)
-    ∙ since-fresh (at m.versions) (count m.versions) r.seen (take t.begun_at s.past) (drop t.begun_at s.past) (place m.case r.path) (split-past at count m s t.begun_at st) slot.seen h
+    overtaken-is at count m s r t slot st
+    ∙ split (has_grown (at m.versions) m.case r) (λ grown. absurd (omega (arith, ltb-true r.seen (at m.versions (place m.case r.path)) grown, h))) (λ fresh. fresh)
 
-closed-stands : {V : Type 0} (at : V → Path → ℕ) (count : V → ℕ) (m : Parts V) (s : State) (c : ℕ) (old new : Retained) → old ≡ new → Stands at count m s
-    → Stands at count (record m { retained = new; scans = slice_set m.scans c None }) (record s { retained = old; scans = slice_set s.scans c None })
-closed-stands at count m s c old new e st = record {
+closed-stands : {V : Type 0} (at : V → Path → ℕ) (count : V → ℕ) (m : Parts V) (s : State) (c : ℕ) (old new : Retained) (log : Option ChangeLog) → old ≡ new → Stands at count m s
+    → Stands at count (record m { retained = new; log = log; scans = slice_set m.scans c None }) (record s { retained = old; scans = slice_set s.scans c None })
+closed-stands at count m s c old new log e st = record {
   case = st.case;
   world = st.world;
   pending = st.pending;
@@ -68,8 +72,8 @@ closed-stands at count m s c old new e st = record {
   kept = st.kept;
 }
 
-kept-stands : {V : Type 0} (at : V → Path → ℕ) (count : V → ℕ) (m : Parts V) (s : State) (new : Retained) → new ≡ m.retained → Stands at count m s → Stands at count (record m { retained = new }) s
-kept-stands at count m s new e st = record {
+kept-stands : {V : Type 0} (at : V → Path → ℕ) (count : V → ℕ) (m : Parts V) (s : State) (new : Retained) (log : Option ChangeLog) → new ≡ m.retained → Stands at count m s → Stands at count (record m { retained = new; log = log }) s
+kept-stands at count m s new log e st = record {
   case = st.case;
   world = st.world;
   pending = st.pending;
@@ -83,50 +87,93 @@ covered-is : {V : Type 0} (at : V → Path → ℕ) (count : V → ℕ) (m : Par
     → is_covered s.retained.pairs (place s.case t.path) ≡ is_covered m.retained.pairs (place m.case r.path)
 covered-is at count m s r t slot st = λ i. is_covered (st.retained i).pairs (where_is at count m s r t slot st i)
 
-publish-by : {V : Type 0} (at : V → Path → ℕ) (count : V → ℕ) (m : Parts V) (s : State) (c : ℕ) (r : RunningScan) (t : Scan) (ret : Retained) (result : Published) → IsScanOf m.case s.past r t
-    → IsAnswered (at m.versions (place m.case r.path)) r.seen (is_covered m.retained.pairs (place m.case r.path)) result
+publish-by : {V : Type 0} (at : V → Path → ℕ) (count : V → ℕ) (m : Parts V) (s : State) (c : ℕ) (r : RunningScan) (t : Scan) (ret : Retained) (log : Option ChangeLog) (result : Published) → IsScanOf m.case s.past r t
+    → IsAnswer (at m.versions (place m.case r.path)) r.seen (is_covered m.retained.pairs (place m.case r.path)) result
     → ret ≡ retained_after (place m.case r.path) (snapshot_made r.partial) m.retained result
     → Stands at count m s
-    → IsOutcome (published_reply result) s (publish_done s c t) (λ u. Stands at count (record m { retained = ret; scans = scans_after m.scans c result }) u)
-publish-by {V} at count m s c r t ret (answer.Stale n) slot ok is_ret st =
-    subst (λ (o : Bool). (Stale n ≡ (publish_when s c t o (is_covered s.retained.pairs (place s.case t.path))).reply) × Stands at count (record m { retained = ret; scans = slice_set m.scans c None }) (publish_when s c t o (is_covered s.retained.pairs (place s.case t.path))).state)
+    → IsOutcome (published_reply result) s (publish_done s c t) (λ u. Stands at count (record m { retained = ret; log = log; scans = scans_after m.scans c result }) u)
+publish-by {V} at count m s c r t ret log (answer.Stale n) slot ok is_ret st =
+    subst (λ (o : Bool). (Stale n ≡ (publish_when s c t o (is_covered s.retained.pairs (place s.case t.path))).reply) × Stands at count (record m { retained = ret; log = log; scans = slice_set m.scans c None }) (publish_when s c t o (is_covered s.retained.pairs (place s.case t.path))).state)
     (sym (overtaken at count m s r t slot st ok.1)) (
       ap Stale (ok.0 ∙ st.past.versions (place m.case r.path) ∙ ap (version s.past) (sym (where_is at count m s r t slot st))),
-      closed-stands at count m s c s.retained ret (st.retained ∙ sym is_ret) st,
+      closed-stands at count m s c s.retained ret log (st.retained ∙ sym is_ret) st,
     )
-publish-by {V} at count m s c r t ret answer.Covered slot ok is_ret st =
-    subst (λ (o : Bool). (Covered ≡ (publish_when s c t o (is_covered s.retained.pairs (place s.case t.path))).reply) × Stands at count (record m { retained = ret; scans = slice_set m.scans c None }) (publish_when s c t o (is_covered s.retained.pairs (place s.case t.path))).state)
+publish-by {V} at count m s c r t ret log answer.Covered slot ok is_ret st =
+    subst (λ (o : Bool). (Covered ≡ (publish_when s c t o (is_covered s.retained.pairs (place s.case t.path))).reply) × Stands at count (record m { retained = ret; log = log; scans = slice_set m.scans c None }) (publish_when s c t o (is_covered s.retained.pairs (place s.case t.path))).state)
     (sym (in-time at count m s r t slot st ok.0))
-    (subst (λ (v : Bool). (Covered ≡ (publish_when s c t false v).reply) × Stands at count (record m { retained = ret; scans = slice_set m.scans c None }) (publish_when s c t false v).state)
+    (subst (λ (v : Bool). (Covered ≡ (publish_when s c t false v).reply) × Stands at count (record m { retained = ret; log = log; scans = slice_set m.scans c None }) (publish_when s c t false v).state)
     (sym (covered-is at count m s r t slot st ∙ ok.1))
-    (refl, closed-stands at count m s c s.retained ret (st.retained ∙ sym is_ret) st))
-publish-by {V} at count m s c r t ret answer.Stored slot ok is_ret st =
-    subst (λ (o : Bool). (Stored ≡ (publish_when s c t o (is_covered s.retained.pairs (place s.case t.path))).reply) × Stands at count (record m { retained = ret; scans = slice_set m.scans c None }) (publish_when s c t o (is_covered s.retained.pairs (place s.case t.path))).state)
+    (refl, closed-stands at count m s c s.retained ret log (st.retained ∙ sym is_ret) st))
+publish-by {V} at count m s c r t ret log answer.Stored slot ok is_ret st =
+    subst (λ (o : Bool). (Stored ≡ (publish_when s c t o (is_covered s.retained.pairs (place s.case t.path))).reply) × Stands at count (record m { retained = ret; log = log; scans = slice_set m.scans c None }) (publish_when s c t o (is_covered s.retained.pairs (place s.case t.path))).state)
     (sym (in-time at count m s r t slot st ok.0))
-    (subst (λ (v : Bool). (Stored ≡ (publish_when s c t false v).reply) × Stands at count (record m { retained = ret; scans = slice_set m.scans c None }) (publish_when s c t false v).state)
+    (subst (λ (v : Bool). (Stored ≡ (publish_when s c t false v).reply) × Stands at count (record m { retained = ret; log = log; scans = slice_set m.scans c None }) (publish_when s c t false v).state)
     (sym (covered-is at count m s r t slot st ∙ ok.1)) (
       refl,
-      closed-stands at count m s c (after_store (place s.case t.path) (snapshot_made t.partial) s.retained) ret
+      closed-stands at count m s c (after_store (place s.case t.path) (snapshot_made t.partial) s.retained) ret log
           ((λ i. after_store (where_is at count m s r t slot st i) (ap snapshot_made slot.partial i) (st.retained i)) ∙ sym is_ret) st,
     ))
-publish-by at count m s c r t ret answer.NoMemory slot ok is_ret st = kept-stands at count m s ret is_ret st
+publish-by at count m s c r t ret log answer.NoMemory slot ok is_ret st = kept-stands at count m s ret log is_ret st
 
-publish-slot : {V : Type 0} (at : V → Path → ℕ) (count : V → ℕ) (m : Parts V) (s : State) (c : ℕ) (r : Option RunningScan) (t : Option Scan) (ret : Retained) (result : Published) → IsSlotOf m.case s.past r t
-    → option_map (λ (q : RunningScan). count_left q.partial) r ≡ Some 0 → IsPublished (at m.versions) m.case m.retained r ret result → Stands at count m s
-    → IsOutcome (published_reply result) s (publish_or s c t) (λ u. Stands at count (record m { retained = ret; scans = scans_after m.scans c result }) u)
-publish-slot at count m s c None t ret result slot done ok st = absurd ok
-publish-slot at count m s c (Some r) None ret result slot done ok st = absurd slot
-publish-slot {V} at count m s c (Some r) (Some t) ret result slot done ok st =
+-- nothing is left of the scan that is in progress
+end-of : (r : RunningScan) (t : Scan) → t.partial ≡ r.partial → option_map (λ (q : RunningScan). count_left q.partial) (Some r) ≡ Some 0 → next_left t.partial ≡ None
+end-of r t same done =
     let zero_left : count_left r.partial ≡ 0 = cc in
-    let end : next_left r.partial ≡ None = none-left r.partial zero_left in
-    subst (λ (q : Option Path). IsOutcome (published_reply result) s (publish_next s c t q) (λ u. Stands at count (record m { retained = ret; scans = scans_after m.scans c result }) u))
-    (sym (ap next_left slot.partial ∙ end))
-    (publish-by at count m s c r t ret result slot ok.0 ok.1 st)
+    ap next_left same ∙ none-left r.partial zero_left
 
-pub publish-done : {V : Type 0} (at : V → Path → ℕ) (count : V → ℕ) (m : Parts V) (s : State) (c : ℕ) (ret : Retained) (result : Published)
-    → option_map (λ (q : RunningScan). count_left q.partial) (running_at m.scans c) ≡ Some 0 → IsPublished (at m.versions) m.case m.retained (running_at m.scans c) ret result → Stands at count m s
-    → IsOutcome (published_reply result) s (publish_or s c (scan_of s c)) (λ u. Stands at count (record m { retained = ret; scans = scans_after m.scans c result }) u)
-publish-done at count m s c ret result done ok st = publish-slot at count m s c (running_at m.scans c) (scan_of s c) ret result (slot-of at count m s c st) done ok st
+publish-slot : {V : Type 0} (at : V → Path → ℕ) (count : V → ℕ) (m : Parts V) (s : State) (c : ℕ) (r : Option RunningScan) (t : Option Scan) (new : Held) (result : Published) → IsSlotOf m.case s.past r t
+    → option_map (λ (q : RunningScan). count_left q.partial) r ≡ Some 0 → IsPublished (at m.versions) (held_of m) new r result → Stands at count m s
+    → IsOutcome (published_reply result) s (publish_or s c t) (λ u. Stands at count (record m { retained = new.retained; log = new.log; scans = scans_after m.scans c result }) u)
+publish-slot at count m s c None t new result slot done ok st = absurd ok
+publish-slot at count m s c (Some r) None new result slot done ok st = absurd slot
+publish-slot {V} at count m s c (Some r) (Some t) new result slot done ok st =
+    subst (λ (q : Option Path). IsOutcome (published_reply result) s (publish_next s c t q) (λ u. Stands at count (record m { retained = new.retained; log = new.log; scans = scans_after m.scans c result }) u))
+    (sym (end-of r t slot.partial done))
+    (publish-by at count m s c r t new.retained new.log result slot ok.answer ok.retained st)
+
+-- ---- what is told of it
+
+logged-by : (case : Case) (past : List Path) (at : Path → ℕ) (old new : Held) (s : State) (c : ℕ) (r : Option RunningScan) (result : Published) → IsSlotOf case past r (scan_of s c) → IsPublished at old new r result
+    → new.log ≡ option_map (with_changes (changes_of s (CallPublish c) (published_reply result))) old.log
+logged-by case past at old new s c None result slot ok = absurd ok
+logged-by case past at old new s c (Some r) (answer.Stale n) slot ok = ok.log
+logged-by case past at old new s c (Some r) answer.Covered slot ok = ok.log
+logged-by case past at old new s c (Some r) answer.NoMemory slot ok = ok.log
+logged-by case past at old new s c (Some r) answer.Stored slot ok = by (scan_of s c) slot
+  where
+    by : (t : Option Scan) → IsSlotOf case past (Some r) t → new.log ≡ option_map (with_changes (change_kept t)) old.log
+    by None slot = absurd slot
+    by (Some t) slot = ok.log ∙ (λ i. option_map (with_changes (Kept (sym slot.path i) (snapshot_made (sym slot.partial i)) ∷ [])) old.log)
+
+-- the change of the publication is told where changes are, and nothing else
+pub publish-logged : {V : Type 0} (at : V → Path → ℕ) (count : V → ℕ) (m : Parts V) (s : State) (c : ℕ) (new : Held) (result : Published) (reply : Reply) → reply ≡ published_reply result
+    → IsPublished (at m.versions) (held_of m) new (running_at m.scans c) result → Stands at count m s
+    → new.log ≡ option_map (with_changes (changes_of s (CallPublish c) reply)) m.log
+publish-logged at count m s c new result reply e ok st =
+    subst (λ (r : Reply). new.log ≡ option_map (with_changes (changes_of s (CallPublish c) r)) m.log) (sym e)
+    (logged-by m.case s.past (at m.versions) (held_of m) new s c (running_at m.scans c) result (slot-of at count m s c st) ok)
+
+-- ---- want of memory
+
+wanting-by : {V : Type 0} (at : V → Path → ℕ) (count : V → ℕ) (m : Parts V) (s : State) (c : ℕ) (new : Held) (r : Option RunningScan) (t : Option Scan) → IsSlotOf m.case s.past r t
+    → option_map (λ (q : RunningScan). count_left q.partial) r ≡ Some 0 → IsPublished (at m.versions) (held_of m) new r answer.NoMemory → Stands at count m s
+    → is_before_memory (publish_or s c t).reply ≡ false
+wanting-by at count m s c new None t slot done ok st = absurd ok
+wanting-by at count m s c new (Some r) None slot done ok st = absurd slot
+wanting-by at count m s c new (Some r) (Some t) slot done ok st =
+    subst (λ (q : Option Path). is_before_memory (publish_next s c t q).reply ≡ false) (sym (end-of r t slot.partial done))
+    (subst (λ (reply : Reply). is_before_memory reply ≡ false) (publish-by at count m s c r t (after_store (place m.case r.path) (snapshot_made r.partial) m.retained) m.log answer.Stored slot ok.answer refl st).0 refl)
+
+-- memory was wanting only where the scan is neither stale nor covered
+pub publish-last : {V : Type 0} (at : V → Path → ℕ) (count : V → ℕ) (m : Parts V) (s : State) (c : ℕ) (new : Held) (result : Published) (reply : Reply) → reply ≡ published_reply result
+    → option_map (λ (q : RunningScan). count_left q.partial) (running_at m.scans c) ≡ Some 0 → IsPublished (at m.versions) (held_of m) new (running_at m.scans c) result → Stands at count m s
+    → is_no_memory reply ≡ true → is_before_memory (publish_or s c (scan_of s c)).reply ≡ false
+publish-last at count m s c new (answer.Stale n) reply e done ok st none = absurd (true≢false (sym none ∙ ap is_no_memory e))
+publish-last at count m s c new answer.Covered reply e done ok st none = absurd (true≢false (sym none ∙ ap is_no_memory e))
+publish-last at count m s c new answer.Stored reply e done ok st none = absurd (true≢false (sym none ∙ ap is_no_memory e))
+publish-last at count m s c new answer.NoMemory reply e done ok st none = wanting-by at count m s c new (running_at m.scans c) (scan_of s c) (slot-of at count m s c st) done ok st
+
+-- ---- nothing is published
 
 closed-by : (case : Case) (past : List Path) (s : State) (c : ℕ) (P : State → Type 0) (r : Option RunningScan) (t : Option Scan) → IsSlotOf case past r t → option_map (λ (q : RunningScan). count_left q.partial) r ≡ None → P s
     → (NoScan ≡ (publish_or s c t).reply) × P (publish_or s c t).state
@@ -152,16 +199,18 @@ pub publish-unfinished : {V : Type 0} (at : V → Path → ℕ) (count : V → �
     → (Unfinished k ≡ (publish_or s c (scan_of s c)).reply) × Stands at count m (publish_or s c (scan_of s c)).state
 publish-unfinished at count m s c k e h st = unfinished-by m.case s.past s c k (λ u. Stands at count m u) (running_at m.scans c) (scan_of s c) (slot-of at count m s c st) e h st
 
-pub publish-whole : {V : Type 0} (at : V → Path → ℕ) (count : V → ℕ) (m : Parts V) (s : State) (c : ℕ) (case : Case) (ret : Retained) (versions : V) (xs : List (Option RunningScan)) (result : Published) (reply : Reply)
-    → case ≡ m.case → versions ≡ m.versions → xs ≡ scans_after m.scans c result → reply ≡ published_reply result
-    → option_map (λ (q : RunningScan). count_left q.partial) (running_at m.scans c) ≡ Some 0 → IsPublished (at m.versions) m.case m.retained (running_at m.scans c) ret result → Stands at count m s
-    → IsOutcome reply s (publish_or s c (scan_of s c)) (λ u. Stands at count (record m { case = case; retained = ret; versions = versions; scans = xs }) u)
-publish-whole {V} at count m s c case ret versions xs result reply e1 e2 e3 e4 done ok st =
-    let same : record m { retained = ret; scans = scans_after m.scans c result } ≡ record m { case = case; retained = ret; versions = versions; scans = xs } =
-    λ i. record m { case = sym e1 i; retained = ret; versions = sym e2 i; scans = sym e3 i } in
-    subst (λ (r : Reply). IsOutcome r s (publish_or s c (scan_of s c)) (λ u. Stands at count (record m { case = case; retained = ret; versions = versions; scans = xs }) u)) (sym e4)
+-- ---- the whole of it
+
+pub publish-whole : {V : Type 0} (at : V → Path → ℕ) (count : V → ℕ) (m : Parts V) (s : State) (c : ℕ) (new : Held) (versions : V) (xs : List (Option RunningScan)) (result : Published) (reply : Reply)
+    → new.case ≡ m.case → versions ≡ m.versions → xs ≡ scans_after m.scans c result → reply ≡ published_reply result
+    → option_map (λ (q : RunningScan). count_left q.partial) (running_at m.scans c) ≡ Some 0 → IsPublished (at m.versions) (held_of m) new (running_at m.scans c) result → Stands at count m s
+    → IsOutcome reply s (publish_or s c (scan_of s c)) (λ u. Stands at count (record m { case = new.case; retained = new.retained; log = new.log; versions = versions; scans = xs }) u)
+publish-whole {V} at count m s c new versions xs result reply e1 e2 e3 e4 done ok st =
+    let same : record m { retained = new.retained; log = new.log; scans = scans_after m.scans c result } ≡ record m { case = new.case; retained = new.retained; log = new.log; versions = versions; scans = xs } =
+    λ i. record m { case = sym e1 i; retained = new.retained; log = new.log; versions = sym e2 i; scans = sym e3 i } in
+    subst (λ (r : Reply). IsOutcome r s (publish_or s c (scan_of s c)) (λ u. Stands at count (record m { case = new.case; retained = new.retained; log = new.log; versions = versions; scans = xs }) u)) (sym e4)
     (subst (λ (n : Parts V). IsOutcome (published_reply result) s (publish_or s c (scan_of s c)) (λ u. Stands at count n u)) same
-    (publish-done at count m s c ret result done ok st))
+    (publish-slot at count m s c (running_at m.scans c) (scan_of s c) new result (slot-of at count m s c st) done ok st))
 
 -- with nothing left, the digests are those of the contents
 pub digests-of_contents : (r : Option RunningScan) (digests : List (List ℕ)) → option_map (λ (q : RunningScan). count_left q.partial) r ≡ Some 0 → AreDigests r digests → AreContentsOf r digests

@@ -1,17 +1,18 @@
 -- A machine that stands for a state still does after a read of a scan.
-use Rattle.std.proofs.Common.{◌≡◌, ℕ, ◌+◌, List, ◌++◌, length, length-append, true, is_some, Option, Some, None, IfSome, option_map, slice_set, refl, sym, ap, ◌∙◌, subst}
+use Rattle.std.proofs.Common.{◌≡◌, ℕ, ◌+◌, List, ◌++◌, length, length-append, true, false, is_some, Option, Some, None, IfSome, option_map, slice_set, refl, sym, ap, ◌∙◌, subst}
 use Rattle.vfs_model.specs.declared.Case.{Case}
 use Rattle.vfs_model.specs.declared.Kind.{Kind}
 use Rattle.vfs_model.specs.Paths.{Path, place}
 use Rattle.vfs_model.specs.World.{World}
 use Rattle.vfs_model.specs.Scanning.{Scan, Look, look, next_left, count_left, after_look}
-use Rattle.vfs_model.specs.State.{State, NoScan, AllRead, Saw, Fault, scan_of, kind_of_look, read_or, read_next, look_due, look_due_at}
+use Rattle.vfs_model.specs.State.{State, TreeAnswer, NoScan, AllRead, Saw, Fault, scan_of, kind_of_look, read_or, read_next, look_below, look_due, look_due_at, IsLookAt, IsLookFor}
 use Rattle.vfs_model.specs.Stands.{RunningScan, Parts, Stands, IsScanOf, IsSlotOf}
 use Rattle.vfs_machine.specs.declared.slots.Next.{Next}
 use Rattle.vfs_machine.specs.declared.slots.Next.TheVariants as to
 use Rattle.vfs_machine.specs.Cased.{CasedScan, running_of, scans_in, cased_at, IsUnder}
 use Rattle.vfs_machine.proofs.CasedLemmas.{running-is}
-use Rattle.vfs_model.specs.Sound.{IsLook}
+use Rattle.vfs_model.specs.Sound.{IsLook, IsLookBelow, IsLookOf}
+use Rattle.vfs_model.specs.Steps.{is_before_memory}
 use Rattle.vfs_machine.specs.Scans.{running_at, location_of, IsNext, IsLookOfOpen}
 use Rattle.vfs_laws.proofs.EditLemmas.{place-append}
 use Rattle.vfs_laws.proofs.SameLemmas.{same-look}
@@ -88,9 +89,9 @@ read-done at count m l s c h st = done-by m.case s.past l s c (λ u. Stands at c
 
 -- ---- a look was made
 
--- the tree may have counted faults, and its content is the same
-pub looked-stands : {V : Type 0} (at : V → Path → ℕ) (count : V → ℕ) (m : Parts V) (f : ℕ) (k : Option World) (s : State) → k ≡ m.content → Stands at count m s → Stands at count (record m { faults = f; content = k }) s
-looked-stands at count m f k s e st = record {
+-- the tree may have counted faults and answered, and its content is the same
+pub looked-stands : {V : Type 0} (at : V → Path → ℕ) (count : V → ℕ) (m : Parts V) (f : ℕ) (k : Option World) (q : Option (List TreeAnswer)) (s : State) → k ≡ m.content → Stands at count m s → Stands at count (record m { faults = f; content = k; answers = q }) s
+looked-stands at count m f k q s e st = record {
   case = st.case;
   world = λ w h. st.world w (sym e ∙ h);
   pending = st.pending;
@@ -108,10 +109,10 @@ failed-by case past p s c P (Some r) (Some t) slot h q =
     subst (λ (y : Option Path). (Fault ≡ (read_next s c t y None).reply) × P (read_next s c t y None).state) (sym (ap next_left slot.partial ∙ (location-some r p h).next)) (refl, q)
 
 -- the look failed
-pub read-failed : {V : Type 0} (at : V → Path → ℕ) (count : V → ℕ) (m : Parts V) (f : ℕ) (k : Option World) (p : Path) (s : State) (c : ℕ) → k ≡ m.content → IsNext (running_at m.scans c) (to.Location p) → Stands at count m s
-    → (Fault ≡ (read_or s c (scan_of s c) None).reply) × Stands at count (record m { faults = f; content = k }) (read_or s c (scan_of s c) None).state
-read-failed at count m f k p s c e h st =
-    failed-by m.case s.past p s c (λ u. Stands at count (record m { faults = f; content = k }) u) (running_at m.scans c) (scan_of s c) (slot-of at count m s c st) h (looked-stands at count m f k s e st)
+pub read-failed : {V : Type 0} (at : V → Path → ℕ) (count : V → ℕ) (m : Parts V) (f : ℕ) (k : Option World) (q : Option (List TreeAnswer)) (p : Path) (s : State) (c : ℕ) → k ≡ m.content → IsNext (running_at m.scans c) (to.Location p) → Stands at count m s
+    → (Fault ≡ (read_or s c (scan_of s c) None).reply) × Stands at count (record m { faults = f; content = k; answers = q }) (read_or s c (scan_of s c) None).state
+read-failed at count m f k q p s c e h st =
+    failed-by m.case s.past p s c (λ u. Stands at count (record m { faults = f; content = k; answers = q }) u) (running_at m.scans c) (scan_of s c) (slot-of at count m s c st) h (looked-stands at count m f k q s e st)
 
 -- the scan after the look
 abbrev pub seen_at : Look → RunningScan → Option RunningScan
@@ -137,13 +138,64 @@ saw-by at count m xs l p n s c (Some r) (Some t) slot h set len st =
     (saw-at at count m l p n s c r t slot (location-some r p h) len st))
 
 -- the look saw what is at the location
-pub read-saw : {V : Type 0} (at : V → Path → ℕ) (count : V → ℕ) (m : Parts V) (f : ℕ) (w : Option World) (xs : List (Option RunningScan)) (l : Look) (p : Path) (k : Kind) (n : ℕ) (s : State) (c : ℕ) → w ≡ m.content → k ≡ kind_of_look l
+pub read-saw : {V : Type 0} (at : V → Path → ℕ) (count : V → ℕ) (m : Parts V) (f : ℕ) (w : Option World) (q : Option (List TreeAnswer)) (xs : List (Option RunningScan)) (l : Look) (p : Path) (k : Kind) (n : ℕ) (s : State) (c : ℕ) → w ≡ m.content → k ≡ kind_of_look l
     → IsNext (running_at m.scans c) (to.Location p)
     → IfSome (running_at m.scans c) (λ q. xs ≡ slice_set m.scans c (seen_at l q)) → IfSome (running_at m.scans c) (λ q. n ≡ count_left (after_look l q.partial)) → Stands at count m s
-    → (Saw p k n ≡ (read_or s c (scan_of s c) (Some l)).reply) × Stands at count (record m { faults = f; content = w; scans = xs }) (read_or s c (scan_of s c) (Some l)).state
-read-saw at count m f w xs l p k n s c e d h set len st =
+    → (Saw p k n ≡ (read_or s c (scan_of s c) (Some l)).reply) × Stands at count (record m { faults = f; content = w; answers = q; scans = xs }) (read_or s c (scan_of s c) (Some l)).state
+read-saw at count m f w q xs l p k n s c e d h set len st =
     let both = saw-by at count m xs l p n s c (running_at m.scans c) (scan_of s c) (slot-of at count m s c st) h set len st in
-    (ap (λ j. Saw p j n) d ∙ both.0, looked-stands at count (record m { scans = xs }) f w (read_or s c (scan_of s c) (Some l)).state e both.1)
+    (ap (λ j. Saw p j n) d ∙ both.0, looked-stands at count (record m { scans = xs }) f w q (read_or s c (scan_of s c) (Some l)).state e both.1)
+
+-- ---- what the look is
+
+-- a look that failed, or was not made, lists no names
+pub no-look : (case : Case) (t : Option Scan) → IsLookOf case t None
+no-look case None = tt
+no-look case (Some t) = by (next_left t.partial)
+  where
+    by : (y : Option Path) → IsLookBelow case t.path y None
+    by None = tt
+    by (Some y) = tt
+
+-- and says nothing of the world
+pub no-word : (s : State) (t : Option Scan) → IsLookFor s t None
+no-word s None = tt
+no-word s (Some t) = by (next_left t.partial)
+  where
+    by : (y : Option Path) → IsLookAt s t y None
+    by None = tt
+    by (Some y) = tt
+
+look-by : (case : Case) (past : List Path) (p : Path) (l : Look) (r : Option RunningScan) (t : Option Scan) → IsSlotOf case past r t → IsNext r (to.Location p) → IsLook case (length p) l → IsLookOf case t (Some l)
+look-by case past p l None t slot h k = absurd h
+look-by case past p l (Some r) None slot h k = absurd slot
+look-by case past p l (Some r) (Some t) slot h k =
+    let next = location-some r p h in
+    let far : length p ≡ length t.path + length next.names = ap length next.path_is ∙ length-append r.path next.names ∙ ap (λ (z : Path). length z + length next.names) (sym slot.path) in
+    subst (λ (y : Option Path). IsLookBelow case t.path y (Some l)) (sym (ap next_left slot.partial ∙ next.next)) (subst (λ (n : ℕ). IsLook case n l) far k)
+
+-- the look at the next location lists names as a look does
+pub look-of-state : {V : Type 0} (at : V → Path → ℕ) (count : V → ℕ) (m : Parts V) (p : Path) (l : Look) (s : State) (c : ℕ) → IsNext (running_at m.scans c) (to.Location p) → IsLook m.case (length p) l → Stands at count m s
+    → IsLookOf s.case (scan_of s c) (Some l)
+look-of-state at count m p l s c h k st =
+    subst (λ (case : Case). IsLookOf case (scan_of s c) (Some l)) (sym st.case) (look-by m.case s.past p l (running_at m.scans c) (scan_of s c) (slot-of at count m s c st) h k)
+
+-- ---- want of memory
+
+wanting-by : (case : Case) (past : List Path) (p : Path) (s : State) (c : ℕ) (l : Option Look) (r : Option RunningScan) (t : Option Scan) → IsSlotOf case past r t → IsNext r (to.Location p) → is_before_memory (read_or s c t l).reply ≡ false
+wanting-by case past p s c l None t slot h = absurd h
+wanting-by case past p s c l (Some r) None slot h = absurd slot
+wanting-by case past p s c l (Some r) (Some t) slot h =
+    subst (λ (y : Option Path). is_before_memory (read_next s c t y l).reply ≡ false) (sym (ap next_left slot.partial ∙ (location-some r p h).next)) (by l)
+  where
+    by : (o : Option Look) → is_before_memory (read_next s c t (Some (location-some r p h).names) o).reply ≡ false
+    by None = refl
+    by (Some k) = refl
+
+-- where a location is left, the reply that is due needs memory
+pub read-wanting : {V : Type 0} (at : V → Path → ℕ) (count : V → ℕ) (m : Parts V) (p : Path) (l : Option Look) (s : State) (c : ℕ) → IsNext (running_at m.scans c) (to.Location p) → Stands at count m s
+    → is_before_memory (read_or s c (scan_of s c) l).reply ≡ false
+read-wanting at count m p l s c h st = wanting-by m.case s.past p s c l (running_at m.scans c) (scan_of s c) (slot-of at count m s c st) h
 
 -- ---- over a told world
 
@@ -163,12 +215,27 @@ pub look_due-told : {V : Type 0} (at : V → Path → ℕ) (count : V → ℕ) (
 look_due-told at count m w p s c told h st =
     due-by m.case s.past p s w (running_at m.scans c) (scan_of s c) (slot-of at count m s c st) h st.case (λ x. same-look m.case s.world w x (st.world w told))
 
+word-by : (case : Case) (past : List Path) (p : Path) (s : State) (w : World) (l : Look) (r : Option RunningScan) (t : Option Scan) → IsSlotOf case past r t → IsNext r (to.Location p) → look_due s t ≡ Some l → IsLookFor s t (Some l)
+word-by case past p s w l None t slot h e = absurd h
+word-by case past p s w l (Some r) None slot h e = absurd slot
+word-by case past p s w l (Some r) (Some t) slot h e =
+    let next = ap next_left slot.partial ∙ (location-some r p h).next in
+    let due : Some (look_below s t (location-some r p h).names) ≡ Some l = sym (ap (look_due_at s t) next) ∙ e in
+    let same : l ≡ look_below s t (location-some r p h).names = cc in
+    subst (λ (y : Option Path). IsLookAt s t y (Some l)) (sym next) same
+
+-- the look that is of the told world is true of each state
+pub look-for-state : {V : Type 0} (at : V → Path → ℕ) (count : V → ℕ) (m : Parts V) (w : World) (p : Path) (l : Look) (s : State) (c : ℕ) → m.content ≡ Some w → l ≡ look m.case w (place m.case p) → IsNext (running_at m.scans c) (to.Location p) → Stands at count m s
+    → IsLookFor s (scan_of s c) (Some l)
+look-for-state at count m w p l s c told is h st =
+    word-by m.case s.past p s w l (running_at m.scans c) (scan_of s c) (slot-of at count m s c st) h (look_due-told at count m w p s c told h st ∙ ap Some (sym is))
+
 -- the read is the step with the look that is due
-pub read-told : {V : Type 0} (at : V → Path → ℕ) (count : V → ℕ) (m : Parts V) (f : ℕ) (k : Option World) (xs : List (Option RunningScan)) (l : Look) (w : World) (p : Path) (kind : Kind) (n : ℕ) (s : State) (c : ℕ)
+pub read-told : {V : Type 0} (at : V → Path → ℕ) (count : V → ℕ) (m : Parts V) (f : ℕ) (k : Option World) (q : Option (List TreeAnswer)) (xs : List (Option RunningScan)) (l : Look) (w : World) (p : Path) (kind : Kind) (n : ℕ) (s : State) (c : ℕ)
     → m.content ≡ Some w → l ≡ look m.case w (place m.case p) → k ≡ m.content → kind ≡ kind_of_look l → IsNext (running_at m.scans c) (to.Location p)
     → IfSome (running_at m.scans c) (λ q. xs ≡ slice_set m.scans c (seen_at l q)) → IfSome (running_at m.scans c) (λ q. n ≡ count_left (after_look l q.partial)) → Stands at count m s
-    → (Saw p kind n ≡ (read_or s c (scan_of s c) (look_due s (scan_of s c))).reply) × Stands at count (record m { faults = f; content = k; scans = xs }) (read_or s c (scan_of s c) (look_due s (scan_of s c))).state
-read-told at count m f k xs l w p kind n s c told is e d h set len st =
-    subst (λ (look : Option Look). (Saw p kind n ≡ (read_or s c (scan_of s c) look).reply) × Stands at count (record m { faults = f; content = k; scans = xs }) (read_or s c (scan_of s c) look).state)
+    → (Saw p kind n ≡ (read_or s c (scan_of s c) (look_due s (scan_of s c))).reply) × Stands at count (record m { faults = f; content = k; answers = q; scans = xs }) (read_or s c (scan_of s c) (look_due s (scan_of s c))).state
+read-told at count m f k q xs l w p kind n s c told is e d h set len st =
+    subst (λ (look : Option Look). (Saw p kind n ≡ (read_or s c (scan_of s c) look).reply) × Stands at count (record m { faults = f; content = k; answers = q; scans = xs }) (read_or s c (scan_of s c) look).state)
     (ap Some is ∙ sym (look_due-told at count m w p s c told h st))
-    (read-saw at count m f k xs l p kind n s c e d h set len st)
+    (read-saw at count m f k q xs l p kind n s c e d h set len st)

@@ -5,8 +5,9 @@ use Rattle.vfs_model.specs.declared.Case.{Case}
 use Rattle.vfs_model.specs.Paths.{Path, place}
 use Rattle.vfs_model.specs.Pending.{version}
 use Rattle.vfs_model.specs.Scanning.{Scan, Unread, contents}
-use Rattle.vfs_model.specs.State.{State, AlreadyOpen, Version, open_scan, scan_of, with_scan, begin_or}
+use Rattle.vfs_model.specs.State.{State, AlreadyOpen, Version, Dropped, open_scan, scan_of, with_scan, begin_or, drop_or}
 use Rattle.vfs_model.specs.Stands.{RunningScan, Parts, Stands, IsSlotOf, AreSlotsOf}
+use Rattle.vfs_model.specs.Steps.{is_before_memory}
 use Rattle.vfs_machine.specs.Scans.{running_at}
 
 slot-at : (case : Case) (past : List Path) (rs : List (Option RunningScan)) (ss : List (Option Scan)) (c : ℕ) → AreSlotsOf case past rs ss → IsSlotOf case past (running_at rs c) (open_scan (slice_get ss c))
@@ -83,6 +84,34 @@ begin-with {V} at count m s c p r n e f none st =
       subst (λ (q : RunningScan). Stands at count (record m { scans = slice_set m.scans c (Some q) }) (begin_or s c p (scan_of s c)).state) (sym e) both.1,
     )
 
+-- where the scan is closed, the reply that is due needs memory
+pub begin-wanting : {V : Type 0} (at : V → Path → ℕ) (count : V → ℕ) (m : Parts V) (s : State) (c : ℕ) (p : Path) → is_some (running_at m.scans c) ≡ false → Stands at count m s
+    → is_before_memory (begin_or s c p (scan_of s c)).reply ≡ false
+begin-wanting at count m s c p none st =
+    subst (λ (t : Option Scan). is_before_memory (begin_or s c p t).reply ≡ false) (sym (closed-by m.case s.past (running_at m.scans c) (scan_of s c) (slot-of at count m s c st) none)) refl
+
+-- ---- a drop
+
+-- the scan is closed already
+pub drop-closed : {V : Type 0} (at : V → Path → ℕ) (count : V → ℕ) (m : Parts V) (s : State) (c : ℕ) → is_some (running_at m.scans c) ≡ false → Stands at count m s
+    → (Dropped false ≡ (drop_or s c (scan_of s c)).reply) × Stands at count m (drop_or s c (scan_of s c)).state
+drop-closed at count m s c none st =
+    subst (λ (t : Option Scan). (Dropped false ≡ (drop_or s c t).reply) × Stands at count m (drop_or s c t).state)
+    (sym (closed-by m.case s.past (running_at m.scans c) (scan_of s c) (slot-of at count m s c st) none)) (refl, st)
+
+dropped-by : (case : Case) (past : List Path) (s : State) (c : ℕ) (P : State → Type 0) (r : Option RunningScan) (t : Option Scan) → IsSlotOf case past r t → is_some r ≡ true → P (with_scan s c None)
+    → (Dropped true ≡ (drop_or s c t).reply) × P (drop_or s c t).state
+dropped-by case past s c P None t slot found h = cc
+dropped-by case past s c P (Some r) None slot found h = absurd slot
+dropped-by case past s c P (Some r) (Some t) slot found h = (refl, h)
+
+-- the scan is in progress, and is closed
+pub drop-open : {V : Type 0} (at : V → Path → ℕ) (count : V → ℕ) (m : Parts V) (s : State) (c : ℕ) (xs : List (Option RunningScan)) → xs ≡ slice_set m.scans c None → is_some (running_at m.scans c) ≡ true → Stands at count m s
+    → (Dropped true ≡ (drop_or s c (scan_of s c)).reply) × Stands at count (record m { scans = xs }) (drop_or s c (scan_of s c)).state
+drop-open at count m s c xs set found st =
+    dropped-by m.case s.past s c (λ t. Stands at count (record m { scans = xs }) t) (running_at m.scans c) (scan_of s c) (slot-of at count m s c st) found
+    (subst (λ (ys : List (Option RunningScan)). Stands at count (record m { scans = ys }) (with_scan s c None)) (sym set) (with_slot-stands at count m s c None None st tt))
+
 -- ---- contents
 
 contents-by : (case : Case) (past : List Path) (r : Option RunningScan) (t : Option Scan) → IsSlotOf case past r t → option_map (λ (q : RunningScan). contents q.partial) r ≡ option_map (λ (q : Scan). contents q.partial) t
@@ -95,3 +124,13 @@ contents-by case past (Some r) (Some t) slot = ap (λ p. Some (contents p)) (sym
 pub contents-of : {V : Type 0} (at : V → Path → ℕ) (count : V → ℕ) (m : Parts V) (s : State) (c : ℕ) → Stands at count m s
     → option_map (λ (q : RunningScan). contents q.partial) (running_at m.scans c) ≡ option_map (λ (q : Scan). contents q.partial) (scan_of s c)
 contents-of at count m s c st = contents-by m.case s.past (running_at m.scans c) (scan_of s c) (slot-of at count m s c st)
+
+open-too : (case : Case) (past : List Path) (r : Option RunningScan) (t : Option Scan) → IsSlotOf case past r t → is_some r ≡ is_some t
+open-too case past None None slot = refl
+open-too case past None (Some t) slot = absurd slot
+open-too case past (Some r) None slot = absurd slot
+open-too case past (Some r) (Some t) slot = refl
+
+-- the scan is in progress where the state's is
+pub scanning-of : {V : Type 0} (at : V → Path → ℕ) (count : V → ℕ) (m : Parts V) (s : State) (c : ℕ) → Stands at count m s → is_some (running_at m.scans c) ≡ is_some (scan_of s c)
+scanning-of at count m s c st = open-too m.case s.past (running_at m.scans c) (scan_of s c) (slot-of at count m s c st)

@@ -9,6 +9,7 @@ use Rattle.vfs_model.specs.Retained.{after_invalidation}
 use Rattle.vfs_model.specs.Scanning.{Scan}
 use Rattle.vfs_model.specs.State.{State, Delivered, Cleared, NothingPending, after_delivery, after_clear, deliver_first, deliver_when, is_touched}
 use Rattle.vfs_model.specs.Stands.{StandsFor, RunningScan, Parts, Stands, IsScanOf, IsSlotOf, AreSlotsOf}
+use Rattle.vfs_model.specs.Steps.{is_before_memory}
 use Rattle.world_model.specs.Front.{without_front, IsFirst}
 use Rattle.snapshot_hierarchy.specs.Held.{nothing}
 
@@ -122,3 +123,15 @@ deliver-none {V} at count m s mark empty st =
     subst (λ (b : Bool). (NothingPending ≡ (deliver_when s b).reply) × Stands at count m (deliver_when s b).state) (sym (ap (λ (p : Pending). p.mark) st.pending ∙ mark))
     (subst (λ (l : List Path). (NothingPending ≡ (deliver_first s l).reply) × Stands at count m (deliver_first s l).state) (sym (ap (λ (p : Pending). p.events) st.pending ∙ empty))
     (refl, st))
+
+-- ---- want of memory
+
+-- where the mark is set, the reply that is due needs memory
+pub deliver-marked : {V : Type 0} (at : V → Path → ℕ) (count : V → ℕ) (m : Parts V) (s : State) → m.pending.mark ≡ true → Stands at count m s → is_before_memory (deliver_when s s.pending.mark).reply ≡ false
+deliver-marked at count m s mark st = subst (λ (b : Bool). is_before_memory (deliver_when s b).reply ≡ false) (sym (ap (λ (p : Pending). p.mark) st.pending ∙ mark)) refl
+
+-- and so it does where an event waits
+pub deliver-waiting : {V : Type 0} (at : V → Path → ℕ) (count : V → ℕ) (m : Parts V) (e : Path) (s : State) → m.pending.mark ≡ false → IsFirst m.pending.events e → Stands at count m s → is_before_memory (deliver_when s s.pending.mark).reply ≡ false
+deliver-waiting at count m e s mark first st =
+    subst (λ (b : Bool). is_before_memory (deliver_when s b).reply ≡ false) (sym (ap (λ (p : Pending). p.mark) st.pending ∙ mark))
+    (subst (λ (l : List Path). is_before_memory (deliver_first s l).reply ≡ false) (sym (ap (λ (p : Pending). p.events) st.pending ∙ first-of m.pending.events e first)) refl)

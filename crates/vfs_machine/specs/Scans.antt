@@ -33,6 +33,10 @@ IsNext (Some r) to.Closed = ⊥
 IsNext (Some r) to.Done = location_of r ≡ None
 IsNext (Some r) (to.Location p) = location_of r ≡ Some p
 
+-- the scan is in progress, and has a next location
+abbrev pub HasNext : Option RunningScan → Type 0
+HasNext r = (p : Path) × IsNext r (to.Location p)
+
 -- a location is left, and the look lists names as one at that location does
 pub record IsLookOf (s : CasedScan) (l : Look) : Type 0 where
   pub left : IsSome (next_left s.scan.partial)

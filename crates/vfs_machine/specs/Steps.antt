@@ -1,13 +1,15 @@
--- What a call owes: the reply of the model's step, and a machine that stands for the step's state.
-use Rattle.std.specs.Prelude.{◌≡◌, ℕ, Bool, true, false, [], Option, Some, None}
+-- The replies that answers stand for, and what the tree answered in a call.
+use Rattle.std.specs.Prelude.{◌≡◌, ◌⊎◌, ℕ, List, [], ◌∷◌, Option, Some, None, option_map}
 use Rattle.vfs_model.specs.Paths.{Path}
 use Rattle.vfs_model.specs.World.{World}
 use Rattle.vfs_model.specs.Edit.{Edit, events}
 use Rattle.vfs_model.specs.Scanning.{Look}
+use Rattle.vfs_model.specs.Sound.{AreLooks}
 use Rattle.vfs_model.specs.Stands.{Parts, Stands}
-use Rattle.vfs_model.specs.State.{State, Call, CallRead, Reply, Outcome, Answers, EditAnswer, Refuses, Does, Refused, Done, Overflow, Fits, Cleared, Delivered, NothingPending, AlreadyOpen, Version, NoScan, AllRead, Saw, Unfinished, Stale, Covered, Stored, Fault, NoMemory, step, told_step}
-use Rattle.vfs_model.specs.History.{is_no_memory}
+use Rattle.vfs_model.specs.Steps.{IsStepOf}
+use Rattle.vfs_model.specs.State.{State, CallRead, Reply, Answers, AreDue, EditAnswer, Refuses, Does, TreeAnswer, ToEdit, ToLook, Refused, Done, Overflow, Fits, Cleared, Delivered, NothingPending, AlreadyOpen, Version, NoScan, AllRead, Saw, Unfinished, Stale, Covered, Stored, Fault, NoMemory}
 use Rattle.world_model.specs.Meaning.{refusal_of}
+use Rattle.world_model.specs.Told.{with_answers}
 use Rattle.world_model.specs.declared.intake.Fit.{Fit}
 use Rattle.world_model.specs.declared.intake.Fit.TheVariants as fit
 use Rattle.vfs_machine.specs.declared.answers.Edited.{Edited}
@@ -59,25 +61,7 @@ answer_reply answer.Covered = Covered
 answer_reply answer.Stored = Stored
 answer_reply answer.NoMemory = NoMemory
 
--- ---- the step
-
--- the reply and the state are those of the outcome, unless memory was wanting
-abbrev pub outcome_unless : Bool → Reply → State → Outcome → (State → Type 0) → Type 0
-outcome_unless true r s o P = P s
-outcome_unless false r s o P = (r ≡ o.reply) × P o.state
-
--- the reply is that of the outcome, and the fact holds of its state; where memory was wanting it holds of the state before
-abbrev pub IsOutcome : Reply → State → Outcome → (State → Type 0) → Type 0
-IsOutcome r s o P = outcome_unless (is_no_memory r) r s o P
-
--- for every state that the machine stands for, the reply is that of the step, and the machine stands for the step's state afterwards
-abbrev pub IsStepOf : {V : Type 0} → (V → Path → ℕ) → (V → ℕ) → Parts V → Parts V → Answers → Call → Reply → Type 0
-IsStepOf at count old new a call r = (s : State) → Stands at count old s → IsOutcome r s (step a s call) (Stands at count new)
-
--- the same of a tree that tells its content, whose answers are those of the world
-abbrev pub IsToldStepOf : {V : Type 0} → (V → Path → ℕ) → (V → ℕ) → Parts V → Parts V → Call → Reply → Type 0
-IsToldStepOf at count old new call r =
-    (w : World) → old.content ≡ Some w → (s : State) → Stands at count old s → IsOutcome r s (told_step s call) (Stands at count new)
+-- ---- what the tree answered
 
 -- what the tree answered to the edit, as the call's answer tells
 abbrev pub edit_given : Edit → Edited → EditAnswer
@@ -94,7 +78,28 @@ edit_answers edit result = record { edit = edit_given edit result; look = None }
 abbrev pub read_answers : Option Look → Answers
 read_answers look = record { edit = Does []; look = look }
 
--- the read is the step for some look that the tree gave
+-- what an edit adds to the tree's answers; want of memory is none
+abbrev pub edit_asked : Edit → Edited → List TreeAnswer
+edit_asked edit edited.Done = ToEdit (Does (events edit)) ∷ []
+edit_asked edit edited.Overflow = ToEdit (Does (events edit)) ∷ []
+edit_asked edit (edited.Refused e) = ToEdit (Refuses (refusal_of e)) ∷ []
+edit_asked edit edited.NoMemory = []
+
+-- what a read asks of the tree, whose look gave this: nothing where the scan is closed or nothing is left, and else one look; where memory was wanting, that may have been before the look or behind one that did not fail
+abbrev pub AreAsked : Readed → Option Look → List TreeAnswer → Type 0
+AreAsked readed.NoScan given asked = asked ≡ []
+AreAsked readed.Done given asked = asked ≡ []
+AreAsked (readed.Saw p k n) given asked = asked ≡ ToLook given ∷ []
+AreAsked readed.Fault given asked = asked ≡ ToLook given ∷ []
+AreAsked readed.NoMemory None asked = asked ≡ []
+AreAsked readed.NoMemory (Some look) asked = (asked ≡ []) ⊎ (asked ≡ ToLook (Some look) ∷ [])
+
+-- the read is the step for some look that the tree gave: it lists names as a look does, is true of the content where that is told, and is all that the tree was asked
 pub record IsRead {V : Type 0} (at : V → Path → ℕ) (count : V → ℕ) (old new : Parts V) (c : ℕ) (result : Readed) : Type 0 where
   pub given : Option Look
+  pub asked : List TreeAnswer
   pub step : IsStepOf at count old new (read_answers given) (CallRead c) (readed_reply result)
+  pub looks : (s : State) → Stands at count old s → AreLooks s (CallRead c) (read_answers given)
+  pub due : (w : World) → old.content ≡ Some w → (s : State) → Stands at count old s → AreDue s (CallRead c) (read_answers given)
+  pub are_asked : AreAsked result given asked
+  pub answered : new.answers ≡ option_map (with_answers asked) old.answers

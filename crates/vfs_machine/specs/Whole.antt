@@ -15,8 +15,10 @@ parts_of told pending holds scans = record {
   case = holds.case;
   content = told.content;
   faults = told.faults;
+  answers = told.answers;
   pending = pending;
   retained = holds.retained;
+  log = holds.log;
   versions = holds.versions;
   scans = scans;
   kept = [];
@@ -34,8 +36,10 @@ opening_parts told queue held versions = record {
   case = held.case;
   content = told.content;
   faults = told.faults;
+  answers = told.answers;
   pending = record { events = []; capacity = queue; mark = false };
   retained = held.retained;
+  log = held.log;
   versions = versions;
   scans = replicate 16 None;
   kept = [];
@@ -43,4 +47,8 @@ opening_parts told queue held versions = record {
 
 -- what a machine's tree tells
 abbrev pub told_of : {V : Type 0} → Parts V → TreeTold
-told_of m = record { case = m.case; content = m.content; faults = m.faults }
+told_of m = record { case = m.case; content = m.content; faults = m.faults; answers = m.answers }
+
+-- what a machine's holder of snapshots tells
+abbrev pub held_of : {V : Type 0} → Parts V → Held
+held_of m = record { case = m.case; retained = m.retained; log = m.log }

@@ -3,6 +3,7 @@
 
 mod answers;
 mod digests;
+mod engine;
 mod machine;
 mod scan;
 mod slots;

@@ -1,92 +1,78 @@
 //! The machine.
 
-ghost use Rattle.std.specs.Prelude.{◌≡◌, ◌<◌, ◌≤◌, ◌^◌, ◌+◌, Some, None, [], ◌∷◌, true, false, IfOk, IfErr, IfSome, OnErr, IsTrue, ◌↔◌, ℕ, length, is_some, option_map, replicate};
+ghost use Rattle.std.specs.Prelude.{◌≡◌, ◌<◌, ◌≤◌, ◌^◌, ◌+◌, Some, [], List, ℕ, IfOk, IfErr, IfSome, IsTrue, ◌↔◌, length, is_some, option_map};
 ghost use Rattle.std.specs.Option.{option_copied};
 ghost use Rattle.vfs_model.specs.Paths as paths;
 ghost use Rattle.vfs_model.specs.Pending as pending;
 ghost use Rattle.vfs_model.specs.Scanning as scanning;
 ghost use Rattle.vfs_model.specs.State as state;
-ghost use Rattle.vfs_model.specs.Sound.{IsSettled};
-ghost use Rattle.world_model.specs.Front.{IsFirst};
+ghost use Rattle.vfs_model.specs.History as history;
+ghost use Rattle.vfs_model.specs.Sound.{IsSettled, IsSound, AreScanned};
 ghost use Rattle.vfs_model.specs.World.{World, IsWorld};
-ghost use Rattle.vfs_model.specs.History.{opening};
-ghost use Rattle.snapshot_hierarchy.specs.Held.{nothing};
 ghost use Rattle.vfs_model.specs.Faults.{Rose};
-ghost use Rattle.vfs_model.specs.Stands.{Stands, StandsFor};
+ghost use Rattle.vfs_model.specs.Stands.{Stands, StandsFor, HasSound, KnowsTruth};
+ghost use Rattle.vfs_model.specs.Steps.{IsStepOf, IsToldStepOf, IsLogged, IsMemoryLast};
 ghost use Rattle.snapshot_tree.specs.Meaning.{meaning_of, glance_of};
-ghost use Rattle.world_model.specs.Meaning.{edit_of, events_of, look_seen};
+ghost use Rattle.snapshot_hierarchy.specs.Held.{nothing};
+ghost use Rattle.world_model.specs.Meaning.{edit_of};
+ghost use Rattle.world_model.specs.Told.{with_answers};
 ghost use Rattle.vfs_machine.specs.declared.answers.Readed.TheVariants as readed;
-ghost use Rattle.vfs_machine.specs.Cased.{cased_at, running_of, scans_in};
-ghost use Rattle.vfs_machine.specs.Scans.{running_at, AreDigests, AreContentsOf, IsDone, IsShapedRunning};
-ghost use Rattle.vfs_machine.specs.Deliveries.{Counts, IsDue};
-ghost use Rattle.vfs_machine.specs.Whole.{opening_parts, told_of};
-ghost use Rattle.vfs_machine.specs.Steps.{IsStepOf, IsToldStepOf, IsRead, edit_answers, edited_reply, fit_reply, delivered_reply, began_reply, readed_reply, answer_reply};
-ghost use Rattle.vfs_machine.specs.Publish.{IsPublished, published_reply, scans_after};
+ghost use Rattle.vfs_machine.specs.Scans.{running_at, AreDigests, IsShapedRunning};
+ghost use Rattle.vfs_machine.specs.Deliveries.{Counts};
+ghost use Rattle.vfs_machine.specs.Whole.{held_of, opening_parts, told_of};
+ghost use Rattle.vfs_machine.specs.Steps.{IsRead, edit_answers, edit_asked, edited_reply, fit_reply, delivered_reply, began_reply, readed_reply, answer_reply};
+ghost use Rattle.vfs_machine.specs.Publish.{IsStaleWhere};
 
 use crate::answers::{Answer, Began, Delivered, Edited, Readed};
-use crate::scan::Scan;
-use crate::slots::{Next, contents_of, is_open, left_of, next_of, see_in, set_scan};
-use case_order::{Case, NoMemory, Share};
+use crate::engine::Engine;
+use case_order::{Case, NoMemory};
 use merkle_hash::{Bytes, Digest};
-use publish_core::{Published, Vfs};
 use snapshot_hierarchy::Retain;
 use snapshot_tree::{Glance, Kind, Snapshot};
 use std::alloc::Global;
 use std::marker::Model;
 use version_hierarchy::Versions;
 use vfs_path::Path;
-use world_model::{ApplyError, Edit, Entry, Events, Fit, Front, Intake, LookError, Tree};
+use world_model::{Edit, Fit, Tree};
 
 /// A tree, the events that wait, what is retained with the versions of paths, and sixteen numbered
-/// scans, each closed or in progress.
+/// scans, each closed or in progress. It is sound at all times.
 ///
 /// Contracts see these parts as plain data, and say of each call: for every state of the model that
 /// the machine stands for before it, the machine stands afterwards for the state of the model's
 /// step, and the answer is that of the step. Where an answer is `NoMemory` the machine stands for
-/// the states that it stood for before.
+/// the states that it stood for before, and no answer that needs no memory was due; of an edit that
+/// is said where the tree tells its content. The type keeps that the machine stands for a state in
+/// shape, and for a sound one where its tree tells the content.
 #[derive(Drop)]
 pub struct Machine<T: Tree, R: Retain, V: Versions> {
-    tree: T,
-    intake: Intake,
-    vfs: Vfs<R, V>,
-    scans: Vec<Option<Scan>>,
+    engine: Engine<T, R, V>,
 }
 
 impl<T: Tree, R: Retain, V: Versions> Model for Machine<T, R, V> {
-    ghost use Rattle.vfs_model.specs.Stands.{Parts};
+    ghost use Rattle.vfs_model.specs.Stands.{Parts, HasSound};
     ghost use Rattle.vfs_model.specs.Code.{parts_code};
-    ghost use Rattle.vfs_machine.specs.Cased.{scans_in};
-    ghost use Rattle.vfs_machine.specs.Whole.{parts_of, IsWhole};
 
     ghost Value = { Parts V };
 
     ghost coded = { parts_code V.code };
 
-    ghost view = { λ m. parts_of (T.told m.tree) m.intake m.vfs (scans_in m.scans.items) };
+    ghost view = { λ m. m.engine };
 
-    ghost invariant = { λ m. IsWhole (T.told m.tree).case m.vfs.case m.scans.items };
+    ghost invariant = { λ m. HasSound V.version V.count m.engine };
 }
 
-/// Queues an event; false where it did not fit.
-fn put(intake: &mut Intake, path: Path) -> bool
-    ensures fit { result ≡ pending.has_room intake.old }
-    ensures queue { intake.new ≡ pending.put path intake.old }
+/// The word of an edit's paths that they have at most 64 names.
+fn ask_lengths(edit: &Edit)
+    ensures { history.IsCall (state.CallEdit (edit_of edit.now)) }
 {
-    intake.put(path) == Fit::Fits
-}
-
-/// Queues the events of an edit, in order; false where one did not fit.
-fn put_all(intake: &mut Intake, events: Events) -> bool
-    ensures fit { result ≡ state.all_fit (events_of events) intake.old }
-    ensures queue { intake.new ≡ pending.put_all (events_of events) intake.old }
-    ensures waiting { pending.deliveries_due intake.new ≤ pending.deliveries_due intake.old + 2 }
-{
-    match events {
-        Events::One(path) => put(intake, path),
-        Events::Two(from, to) => {
-            let first = put(intake, from);
-            let second = put(intake, to);
-            first && second
+    match edit {
+        Edit::Write(path, _) | Edit::Mkdir(path) | Edit::Remove(path) => {
+            let _short = path.len();
+        }
+        Edit::Move(from, to) => {
+            let _short = from.len();
+            let _short_too = to.len();
         }
     }
 }
@@ -94,85 +80,81 @@ fn put_all(intake: &mut Intake, events: Events) -> bool
 impl<T: Tree, R: Retain, V: Versions> Machine<T, R, V> {
     /// The case of the tree and of all that is retained; takes no memory.
     ///
-    /// Where the tree tells its content this is a world under the case, and there are sixteen scans.
+    /// Here the machine gives its word on what it keeps: where the tree tells its content this is a
+    /// world under the case, what the machine knows is true of it, but where an event waits or the
+    /// mark is set, and each state over a world that the machine stands for is sound. There are
+    /// sixteen scans.
     pub fn case(&self) -> Case
         ensures case { result ≡ self.now.case }
         ensures world { (w : World) → self.now.content ≡ Some w → IsWorld self.now.case w }
         ensures sixteen { length self.now.scans ≡ 16 }
+        ensures sound { HasSound V.version V.count self.now }
+        ensures truth { (w : World) → self.now.content ≡ Some w → KnowsTruth V.version self.now w }
+        ensures states { (w : World) → self.now.content ≡ Some w → (s : state.State)
+            → Stands V.version V.count self.now s → IsWorld s.case s.world → IsSound s }
     {
-        self.tree.case()
+        self.engine.case()
     }
 
     /// Edits the tree; the events of the edit are queued in the same step.
     ///
-    /// `Overflow` comes exactly where an event did not fit, `Refused` as the tree refuses.
+    /// `Overflow` comes exactly where an event did not fit, `Refused` as the tree refuses, and
+    /// `NoMemory`, where the tree tells its content, only where nothing is refused.
     pub fn edit(&mut self, edit: &Edit) -> Edited
-        ensures step { IsStepOf V.version V.count self.old self.new (edit_answers (edit_of edit.now) result) (state.CallEdit (edit_of edit.now)) (edited_reply result) }
-        ensures told { IsToldStepOf V.version V.count self.old self.new (state.CallEdit (edit_of edit.now)) (edited_reply result) }
+        ensures step { IsStepOf V.version V.count self.old self.new
+            (edit_answers (edit_of edit.now) result) (state.CallEdit (edit_of edit.now)) (edited_reply result) }
+        ensures told { IsToldStepOf V.version V.count self.old self.new
+            (state.CallEdit (edit_of edit.now)) (edited_reply result) }
+        ensures last { (w : World) → self.old.content ≡ Some w
+            → IsMemoryLast V.version V.count self.old (λ s. state.told_step s (state.CallEdit (edit_of edit.now))) (edited_reply result) }
         ensures tells { is_some self.new.content ≡ is_some self.old.content }
         ensures faults { self.old.faults ≤ self.new.faults }
+        ensures answered { self.new.answers
+            ≡ option_map (with_answers (edit_asked (edit_of edit.now) result)) self.old.answers }
+        ensures log { self.new.log ≡ self.old.log }
         ensures versions { self.new.versions ≡ self.old.versions }
         ensures waiting { pending.deliveries_due self.new.pending ≤ pending.deliveries_due self.old.pending + 2 }
     {
-        // The tree's word that what it tells is a world.
-        let _case = self.tree.case();
-        match self.tree.apply(edit) {
-            Ok(events) => {
-                if put_all(&mut self.intake, events) {
-                    Edited::Done
-                } else {
-                    Edited::Overflow
-                }
-            }
-            Err(ApplyError::Refused(e)) => Edited::Refused(e),
-            Err(ApplyError::NoMemory) => Edited::NoMemory,
-        }
+        ask_lengths(edit);
+        self.engine.edit(edit)
     }
 
     /// Queues an event that was told from outside; takes no memory.
     pub fn event(&mut self, path: Path) -> Fit
-        ensures step { (a : state.Answers) → IsStepOf V.version V.count self.old self.new a (state.CallEvent path) (fit_reply result) }
+        ensures step { (a : state.Answers)
+            → IsStepOf V.version V.count self.old self.new a (state.CallEvent path) (fit_reply result) }
         ensures content { told_of self.new ≡ told_of self.old }
+        ensures log { self.new.log ≡ self.old.log }
         ensures versions { self.new.versions ≡ self.old.versions }
         ensures waiting { pending.deliveries_due self.new.pending ≤ pending.deliveries_due self.old.pending + 1 }
     {
-        self.intake.put(path)
+        let _short = path.len();
+        self.engine.event(path)
     }
 
     /// Events were lost: those that wait go, and the mark is set; takes no memory.
     pub fn lose(&mut self)
-        ensures step { (a : state.Answers) → IsStepOf V.version V.count self.old self.new a state.CallLose state.Lost }
+        ensures step { (a : state.Answers)
+            → IsStepOf V.version V.count self.old self.new a state.CallLose state.Lost }
         ensures content { told_of self.new ≡ told_of self.old }
+        ensures log { self.new.log ≡ self.old.log }
         ensures versions { self.new.versions ≡ self.old.versions }
     {
-        self.intake.lose();
+        self.engine.lose();
     }
 
     /// Whether no event waits and the mark is clear; takes no memory.
+    ///
+    /// Where it is so and the tree tells its content, each snapshot that is retained, each known
+    /// directory and each kept fingerprint is what a scan of the content gives.
     pub fn settled(&self) -> bool
-        ensures { (s : state.State) → Stands V.version V.count self.now s → IsTrue result ↔ IsSettled s }
+        ensures settled { (s : state.State) → Stands V.version V.count self.now s → IsTrue result ↔ IsSettled s }
+        ensures scanned { IsTrue result → (w : World) → self.now.content ≡ Some w
+            → AreScanned self.now.case w self.now.retained self.now.kept }
     {
-        self.intake.settled()
-    }
-}
-
-/// What is to be delivered next.
-enum Due {
-    /// The mark of lost events.
-    Mark,
-    /// The first event.
-    Event(Path),
-    /// Nothing is pending.
-    Nothing,
-}
-
-fn next_due(intake: &Intake) -> Result<Due, NoMemory>
-    ensures { IfOk result (IsDue intake.now) }
-{
-    match intake.front() {
-        Front::Mark => Ok(Due::Mark),
-        Front::Event(path) => Ok(Due::Event(path.share()?)),
-        Front::Empty => Ok(Due::Nothing),
+        // The tree's word that what it tells is a world.
+        let _case = self.engine.case();
+        self.engine.settled()
     }
 }
 
@@ -184,74 +166,17 @@ impl<T: Tree, R: Retain, V: Versions + Drop> Machine<T, R, V> {
     /// with the invalidation.
     pub fn deliver(&mut self) -> Delivered
         requires { V.count self.old.versions < 2 ^ 62 }
-        ensures step { (a : state.Answers) → IsStepOf V.version V.count self.old self.new a state.CallDeliver (delivered_reply result) }
-        ensures counts { Counts result (V.count self.old.versions) (V.count self.new.versions) (pending.deliveries_due self.old.pending) (pending.deliveries_due self.new.pending) }
+        ensures step { (a : state.Answers)
+            → IsStepOf V.version V.count self.old self.new a state.CallDeliver (delivered_reply result) }
+        ensures last { (a : state.Answers)
+            → IsMemoryLast V.version V.count self.old (λ s. state.step a s state.CallDeliver) (delivered_reply result) }
+        ensures log { IsLogged V.version V.count self.old self.new state.CallDeliver (delivered_reply result) }
+        ensures counts { Counts result (V.count self.old.versions) (V.count self.new.versions)
+            (pending.deliveries_due self.old.pending) (pending.deliveries_due self.new.pending) }
         ensures content { told_of self.new ≡ told_of self.old }
     {
-        match next_due(&self.intake) {
-            Err(NoMemory) => Delivered::NoMemory,
-            Ok(Due::Nothing) => Delivered::Nothing,
-            Ok(Due::Mark) => self.deliver_mark(),
-            Ok(Due::Event(path)) => self.deliver_event(path),
-        }
+        self.engine.deliver()
     }
-
-    fn deliver_mark(&mut self) -> Delivered
-        requires count { V.count self.old.versions < 2 ^ 62 }
-        requires mark { self.old.pending.mark ≡ true }
-        ensures step { (a : state.Answers) → IsStepOf V.version V.count self.old self.new a state.CallDeliver (delivered_reply result) }
-        ensures counts { Counts result (V.count self.old.versions) (V.count self.new.versions) (pending.deliveries_due self.old.pending) (pending.deliveries_due self.new.pending) }
-        ensures content { told_of self.new ≡ told_of self.old }
-    {
-        match self.vfs.drop_all() {
-            Err(NoMemory) => Delivered::NoMemory,
-            Ok(()) => {
-                self.intake.drop_front();
-                Delivered::Cleared
-            }
-        }
-    }
-
-    fn deliver_event(&mut self, path: Path) -> Delivered
-        requires count { V.count self.old.versions < 2 ^ 62 }
-        requires mark { self.old.pending.mark ≡ false }
-        requires first { IsFirst self.old.pending.events path }
-        ensures step { (a : state.Answers) → IsStepOf V.version V.count self.old self.new a state.CallDeliver (delivered_reply result) }
-        ensures counts { Counts result (V.count self.old.versions) (V.count self.new.versions) (pending.deliveries_due self.old.pending) (pending.deliveries_due self.new.pending) }
-        ensures content { told_of self.new ≡ told_of self.old }
-    {
-        match self.vfs.invalidate(&path) {
-            Err(NoMemory) => Delivered::NoMemory,
-            Ok(()) => {
-                self.intake.drop_front();
-                Delivered::Event(path)
-            }
-        }
-    }
-}
-
-fn kind_of(entry: &Entry) -> Kind
-    ensures { result ≡ state.kind_of_look (look_seen entry.now) }
-{
-    match entry {
-        Entry::Missing => Kind::Missing,
-        Entry::File(_) => Kind::File,
-        Entry::Dir(_) => Kind::Dir,
-    }
-}
-
-/// A scan of the path that begins now.
-///
-/// The only error is want of memory.
-fn begun<R: Retain, V: Versions>(
-    alloc: Global,
-    vfs: &Vfs<R, V>,
-    path: &Path,
-) -> Result<Scan, NoMemory>
-    ensures { IfOk result (λ s. s ≡ record { case = vfs.now.case; scan = record { path = path.now; seen = V.version vfs.now.versions (paths.place vfs.now.case path.now); partial = scanning.Unread } }) }
-{
-    let ticket = vfs.begin(path.share()?);
-    Scan::begin(alloc, vfs.case(), ticket)
 }
 
 impl<T: Tree, R: Retain, V: Versions> Machine<T, R, V> {
@@ -261,224 +186,181 @@ impl<T: Tree, R: Retain, V: Versions> Machine<T, R, V> {
     /// `AlreadyOpen` comes exactly where the scan is in progress.
     pub fn begin(&mut self, scan: u64, path: &Path) -> Began
         requires { scan < 16 }
-        ensures step { (a : state.Answers) → IsStepOf V.version V.count self.old self.new a (state.CallBegin scan path.now) (began_reply result) }
+        ensures step { (a : state.Answers)
+            → IsStepOf V.version V.count self.old self.new a (state.CallBegin scan path.now) (began_reply result) }
+        ensures last { (a : state.Answers)
+            → IsMemoryLast V.version V.count self.old (λ s. state.step a s (state.CallBegin scan path.now)) (began_reply result) }
         ensures content { told_of self.new ≡ told_of self.old }
+        ensures log { self.new.log ≡ self.old.log }
         ensures versions { self.new.versions ≡ self.old.versions }
         ensures pending { self.new.pending ≡ self.old.pending }
     {
-        if is_open(&self.scans, scan as usize) {
-            return Began::AlreadyOpen;
-        }
-        match begun(*self.scans.allocator(), &self.vfs, path) {
-            Err(NoMemory) => Began::NoMemory,
-            Ok(begun) => {
-                let version = begun.ticket().seen;
-                set_scan(&mut self.scans, scan as usize, Some(begun));
-                Began::Version(version)
-            }
-        }
+        let _short = path.len();
+        self.engine.begin(scan, path)
     }
 
-    /// Looks at the next location of the scan with the number.
+    /// Looks at the next location of the scan with the number, once; a look that wanted memory is no
+    /// answer of the tree and is not counted.
     ///
     /// `NoScan` comes exactly where the scan is closed, `Done` exactly where no location is left,
-    /// and `Fault` only where the tree's count of faults rose in this call; after it and after
-    /// `NoMemory` the scan is as before.
+    /// and `Fault` where the look failed, and the tree's count of faults rose in this call; after it
+    /// and after `NoMemory` the scan is as before.
     pub fn read(&mut self, scan: u64) -> Readed
         requires { scan < 16 }
         ensures read { IsRead V.version V.count self.old self.new scan result }
-        ensures told { (result ≡ readed.Fault → ⊥) → IsToldStepOf V.version V.count self.old self.new (state.CallRead scan) (readed_reply result) }
+        ensures told { (result ≡ readed.Fault → ⊥)
+            → IsToldStepOf V.version V.count self.old self.new (state.CallRead scan) (readed_reply result) }
+        ensures last { (a : state.Answers)
+            → IsMemoryLast V.version V.count self.old (λ s. state.step a s (state.CallRead scan)) (readed_reply result) }
         ensures fault { result ≡ readed.Fault → Rose self.old.faults self.new.faults × (self.new.faults ≤ T.most_faults) }
         ensures faults { self.old.faults ≤ self.new.faults }
         ensures content { self.new.content ≡ self.old.content }
+        ensures log { self.new.log ≡ self.old.log }
         ensures versions { self.new.versions ≡ self.old.versions }
         ensures pending { self.new.pending ≡ self.old.pending }
     {
-        let path = match next_of(&self.scans, scan as usize) {
-            Err(NoMemory) => return Readed::NoMemory,
-            Ok(Next::Closed) => return Readed::NoScan,
-            Ok(Next::Done) => return Readed::Done,
-            Ok(Next::Location(path)) => path,
-        };
-        let entry = match self.tree.look(&path) {
-            Err(LookError::Failed) => return Readed::Fault,
-            Err(LookError::NoMemory) => return Readed::NoMemory,
-            Ok(entry) => entry,
-        };
-        let kind = kind_of(&entry);
-        let left = match see_in(&mut self.scans, scan as usize, entry) {
-            Err(NoMemory) => return Readed::NoMemory,
-            Ok(left) => left,
-        };
-        Readed::Saw(path, kind, left)
+        self.engine.read(scan)
     }
 
     /// The bytes of the files that the scan with the number has read, in order; None exactly where
     /// it is closed. Takes no memory.
     pub fn contents(&self, scan: u64) -> Option<&[Bytes]>
         requires { scan < 16 }
-        ensures bytes { option_copied result ≡ option_map (λ r. scanning.contents r.partial) (running_at self.now.scans scan) }
-        ensures state { (s : state.State) → Stands V.version V.count self.now s → option_copied result ≡ option_map (λ t. scanning.contents t.partial) (state.scan_of s scan) }
+        ensures bytes { option_copied result
+            ≡ option_map (λ r. scanning.contents r.partial) (running_at self.now.scans scan) }
+        ensures state { (s : state.State) → Stands V.version V.count self.now s
+            → option_copied result ≡ option_map (λ t. scanning.contents t.partial) (state.scan_of s scan) }
         ensures shape { IfSome (running_at self.now.scans scan) (IsShapedRunning self.now.case) }
     {
-        contents_of(&self.scans, scan as usize)
+        self.engine.contents(scan)
     }
-}
 
-/// Publishes the scan with the number, which is in progress with nothing left.
-fn publish_scan<R: Retain, V: Versions>(
-    vfs: &mut Vfs<R, V>,
-    scans: &[Option<Scan>],
-    scan: usize,
-    digests: &[Digest],
-) -> Published
-    requires number { scan < length scans.now }
-    requires open { is_some (cased_at scans.now scan) ≡ true }
-    requires done { IsDone (running_of (cased_at scans.now scan)) }
-    requires digests { AreContentsOf (running_of (cased_at scans.now scan)) digests.now }
-    ensures case { vfs.new.case ≡ vfs.old.case }
-    ensures versions { vfs.new.versions ≡ vfs.old.versions }
-    ensures published { IsPublished (V.version vfs.old.versions) vfs.old.case vfs.old.retained (running_of (cased_at scans.now scan)) vfs.new.retained result }
-{
-    match &scans[scan] {
-        None => unreachable!(),
-        Some(scan) => match scan.snapshot(digests) {
-            Err(NoMemory) => Published::NoMemory,
-            Ok(snapshot) => vfs.publish(scan.ticket(), snapshot),
-        },
-    }
-}
-
-/// Every answer but want of memory closes the scan.
-fn close_after(scans: &mut Vec<Option<Scan>>, scan: usize, published: Published) -> Answer
-    requires { scan < length scans.old.items }
-    ensures reply { answer_reply result ≡ published_reply published }
-    ensures scans { scans.new.items ≡ scans_after scans.old.items scan published }
-    ensures sixteen { length scans.new.items ≡ length scans.old.items }
-{
-    let answer = match published {
-        Published::NoMemory => return Answer::NoMemory,
-        Published::Stale(version) => Answer::Stale(version),
-        Published::Covered => Answer::Covered,
-        Published::Stored => Answer::Stored,
-    };
-    set_scan(scans, scan, None);
-    answer
-}
-
-impl<T: Tree, R: Retain, V: Versions> Machine<T, R, V> {
     /// Publishes what the scan with the number read, whose contents have these digests, in order.
     ///
-    /// The first that holds: `NoScan`, `Unfinished` where locations are left, `Stale` where a
-    /// related path was invalidated since the begin, `Covered`, `Stored`. `NoMemory` may come in
-    /// place of the last three, since the snapshot is made before they are known. Every answer but
-    /// NoScan, Unfinished and NoMemory closes the scan.
+    /// The first that holds: `NoScan`; `Unfinished` where locations are left; `Stale` where a path
+    /// related to the scan's was invalidated since its begin, with the path's version now, which is
+    /// greater than the one that the begin answered; `Covered` where a snapshot is retained strictly
+    /// above; `NoMemory`; `Stored`. The snapshot is of what was read, without what was listed and
+    /// then seen missing. Every answer but `NoScan`, `Unfinished` and `NoMemory` closes the scan.
     pub fn publish(&mut self, scan: u64, digests: &[Digest]) -> Answer
         requires number { scan < 16 }
         requires digests { AreDigests (running_at self.old.scans scan) digests.now }
-        ensures step { (a : state.Answers) → IsStepOf V.version V.count self.old self.new a (state.CallPublish scan) (answer_reply result) }
+        ensures step { (a : state.Answers)
+            → IsStepOf V.version V.count self.old self.new a (state.CallPublish scan) (answer_reply result) }
+        ensures last { (a : state.Answers)
+            → IsMemoryLast V.version V.count self.old (λ s. state.step a s (state.CallPublish scan)) (answer_reply result) }
+        ensures stale { (s : state.State) (p : paths.Path) (h : List history.Operation) → scan < length s.scans
+            → history.IsLegal (state.after_begin s scan p) h → history.KeepsOpen scan h
+            → Stands V.version V.count self.old (history.after (state.after_begin s scan p) h)
+            → IsStaleWhere (history.is_invalidated_in s.case p h) (pending.version s.past (paths.place s.case p))
+            (pending.version (history.after (state.after_begin s scan p) h).past (paths.place s.case p)) result }
+        ensures log { IsLogged V.version V.count self.old self.new (state.CallPublish scan) (answer_reply result) }
         ensures content { told_of self.new ≡ told_of self.old }
         ensures versions { self.new.versions ≡ self.old.versions }
         ensures pending { self.new.pending ≡ self.old.pending }
     {
-        match left_of(&self.scans, scan as usize) {
-            None => return Answer::NoScan,
-            Some(left) => {
-                if left > 0 {
-                    return Answer::Unfinished(left);
-                }
-            }
-        }
-        let published = publish_scan(&mut self.vfs, &self.scans, scan as usize, digests);
-        close_after(&mut self.scans, scan as usize, published)
+        self.engine.publish(scan, digests)
+    }
+
+    /// Closes the scan with the number; false exactly where it was closed. Takes no memory.
+    pub fn drop_scan(&mut self, scan: u64) -> bool
+        requires { scan < 16 }
+        ensures step { (a : state.Answers)
+            → IsStepOf V.version V.count self.old self.new a (state.CallDrop scan) (state.Dropped result) }
+        ensures content { told_of self.new ≡ told_of self.old }
+        ensures log { self.new.log ≡ self.old.log }
+        ensures versions { self.new.versions ≡ self.old.versions }
+        ensures pending { self.new.pending ≡ self.old.pending }
+    {
+        self.engine.drop_scan(scan)
+    }
+
+    /// Whether the scan with the number is in progress; takes no memory.
+    pub fn scanning(&self, scan: u64) -> bool
+        requires { scan < 16 }
+        ensures running { result ≡ is_some (running_at self.now.scans scan) }
+        ensures state { (s : state.State) → Stands V.version V.count self.now s
+            → result ≡ is_some (state.scan_of s scan) }
+    {
+        self.engine.scanning(scan)
     }
 
     /// The kind and the digest of what is retained at the path; takes no memory.
     pub fn find(&self, path: &Path) -> Option<Glance>
-        ensures { (a : state.Answers) (s : state.State) → Stands V.version V.count self.now s → state.Found (option_map glance_of result) ≡ (state.step a s (state.CallFind path.now)).reply }
+        ensures { (a : state.Answers) (s : state.State) → Stands V.version V.count self.now s
+            → state.Found (option_map glance_of result) ≡ (state.step a s (state.CallFind path.now)).reply }
     {
-        self.vfs.find(path)
+        self.engine.find(path)
     }
 
     /// What is retained at the path.
     ///
     /// The only error is want of memory.
     pub fn part(&self, path: &Path) -> Result<Option<Snapshot>, NoMemory>
-        ensures { IfOk result (λ part. (a : state.Answers) (s : state.State) → Stands V.version V.count self.now s → state.Part (option_map meaning_of part) ≡ (state.step a s (state.CallPart path.now)).reply) }
+        ensures { IfOk result (λ part. (a : state.Answers) (s : state.State) → Stands V.version V.count self.now s
+            → state.Part (option_map meaning_of part) ≡ (state.step a s (state.CallPart path.now)).reply) }
     {
-        self.vfs.part(path)
+        self.engine.part(path)
     }
 
     /// The kind of the location, where it is known; takes no memory.
     pub fn kind(&self, path: &Path) -> Option<Kind>
-        ensures { (a : state.Answers) (s : state.State) → Stands V.version V.count self.now s → state.KindIs result ≡ (state.step a s (state.CallKind path.now)).reply }
+        ensures { (a : state.Answers) (s : state.State) → Stands V.version V.count self.now s
+            → state.KindIs result ≡ (state.step a s (state.CallKind path.now)).reply }
     {
-        self.vfs.kind(path)
+        self.engine.kind(path)
     }
 
     /// The version of the path: the place of the last invalidation that was related to it, counted
     /// from 1, or 0. Takes no memory.
     pub fn version(&self, path: &Path) -> u64
-        ensures { (a : state.Answers) (s : state.State) → Stands V.version V.count self.now s → state.Version result ≡ (state.step a s (state.CallVersion path.now)).reply }
+        ensures { (a : state.Answers) (s : state.State) → Stands V.version V.count self.now s
+            → state.Version result ≡ (state.step a s (state.CallVersion path.now)).reply }
     {
-        self.vfs.version(path)
+        self.engine.version(path)
     }
 }
 
-/// Sixteen closed scans.
-fn closed_scans(alloc: Global) -> Result<Vec<Option<Scan>>, NoMemory>
-    ensures { IfOk result (λ scans. scans.items ≡ replicate 16 None) }
-{
-    let mut scans = Vec::new(alloc);
-    for i in 0..16usize {
-        scans.push(None)?;
-    }
-    Ok(scans)
-}
-
-/// An empty queue, and sixteen closed scans.
-fn rooms(alloc: Global, queue: u64) -> Result<(Intake, Vec<Option<Scan>>), NoMemory>
-    requires some { 1 ≤ queue }
-    requires few { queue ≤ 65536 }
-    ensures intake { IfOk result (λ made. made.0 ≡ record { events = []; capacity = queue; mark = false }) }
-    ensures scans { IfOk result (λ made. made.1.items ≡ replicate 16 None) }
-{
-    let intake = Intake::make(alloc, queue)?;
-    let scans = closed_scans(alloc)?;
-    Ok((intake, scans))
-}
-
-impl<T: Tree, R: Retain, V: Versions> Machine<T, R, V> {
+impl<T: Tree, R: Retain, V: Versions + Drop> Machine<T, R, V> {
     /// A machine over the tree with nothing pending and every scan closed, and a queue for so many
     /// events, 1 to 65,536.
     ///
-    /// Where memory is wanting the tree and what is retained are handed back.
+    /// Nothing is retained or was invalidated yet, and all is under one case. Where memory is
+    /// wanting the tree and what is retained are handed back.
     pub fn make(
         alloc: Global,
         tree: T,
         retained: R,
         versions: V,
         queue: u64,
-    ) -> Result<Machine<T, R, V>, (T, R, V, NoMemory)>
+    ) -> Result<Machine<T, R, V>, (T, R, NoMemory)>
         requires some { 1 ≤ queue }
         requires few { queue ≤ 65536 }
         requires tree { (T.told tree).case ≡ (R.held retained).case }
         requires versions { V.case versions ≡ (R.held retained).case }
+        requires nothing { (R.held retained).retained ≡ nothing }
+        requires none { StandsFor (V.version versions) (V.count versions) [] }
         ensures made { IfOk result (λ m. m ≡ opening_parts (T.told tree) queue (R.held retained) versions) }
-        ensures opening { IfOk result (λ m. (w : World) → (T.told tree).content ≡ Some w → (R.held retained).retained ≡ nothing → StandsFor (V.version versions) (V.count versions) [] → Stands V.version V.count m (opening (T.told tree).case queue w)) }
+        ensures opening { IfOk result (λ m. (w : World) → (T.told tree).content ≡ Some w
+            → Stands V.version V.count m (history.opening (T.told tree).case queue w)) }
         ensures tree { IfErr result (λ e. e.0 ≡ tree) }
         ensures retained { IfErr result (λ e. e.1 ≡ retained) }
-        ensures kept { IfErr result (λ e. e.2 ≡ versions) }
     {
-        match rooms(alloc, queue) {
-            Err(e) => Err((tree, retained, versions, e)),
-            Ok((intake, scans)) => Ok(Machine {
-                tree,
-                intake,
-                vfs: Vfs::make(retained, versions),
-                scans,
-            }),
+        // The tree's word that what it tells is a world.
+        let _case = tree.case();
+        match Engine::make(alloc, tree, retained, versions, queue) {
+            Err(refused) => Err(refused),
+            Ok(engine) => Ok(Machine { engine }),
         }
+    }
+
+    /// The machine's tree, and what is retained.
+    pub fn into_parts(self) -> (T, R)
+        ensures tree { T.told result.0 ≡ told_of self }
+        ensures retained { R.held result.1 ≡ held_of self }
+    {
+        let Machine { engine } = self;
+        engine.into_parts()
     }
 }
 
@@ -487,12 +369,7 @@ impl<T: Tree, R: Retain + Drop, V: Versions + Drop> Machine<T, R, V> {
     pub fn into_tree(self) -> T
         ensures { T.told result ≡ told_of self }
     {
-        let Machine {
-            tree,
-            intake: _,
-            vfs: _,
-            scans: _,
-        } = self;
+        let (tree, _retained) = self.into_parts();
         tree
     }
 }

@@ -4,6 +4,7 @@ ghost use Rattle.std.specs.Prelude.{◌≡◌, ◌++◌, None, IfOk, OnOk, OnErr
 ghost use Rattle.std.specs.Option.{option_copied};
 ghost use Rattle.vfs_model.specs.World.{digest_of_bytes};
 ghost use Rattle.vfs_model.specs.Scanning as scanning;
+ghost use Rattle.vfs_model.specs.Snapshot.{IsTree};
 ghost use Rattle.snapshot_tree.specs.Meaning.{meaning_of};
 ghost use Rattle.world_model.specs.Meaning.{look_seen};
 ghost use Rattle.vfs_machine.specs.Scans.{IsLookOf, IsShapedRunning, cased_after, location_of};
@@ -98,7 +99,8 @@ impl Scan {
     pub(crate) fn snapshot(&self, digests: &[Digest]) -> Result<Snapshot, NoMemory>
         requires done { scanning.next_left self.now.scan.partial ≡ None }
         requires digests { digests.now ≡ map digest_of_bytes (scanning.contents self.now.scan.partial) }
-        ensures { IfOk result (λ snapshot. meaning_of snapshot ≡ scanning.snapshot_made self.now.scan.partial) }
+        ensures snapshot { IfOk result (λ snapshot. meaning_of snapshot ≡ scanning.snapshot_made self.now.scan.partial) }
+        ensures tree { IfOk result (λ snapshot. IsTree self.now.case (meaning_of snapshot)) }
     {
         self.walk.snapshot(digests)
     }

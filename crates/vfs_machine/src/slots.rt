@@ -5,7 +5,7 @@ ghost use Rattle.std.specs.Option.{option_copied};
 ghost use Rattle.vfs_model.specs.Scanning as scanning;
 ghost use Rattle.world_model.specs.Meaning.{look_seen};
 ghost use Rattle.vfs_machine.specs.Cased.{running_of, cased_at};
-ghost use Rattle.vfs_machine.specs.Scans.{IsNext, IsLookOfOpen, IsShapedRunning, cased_after, scan_after};
+ghost use Rattle.vfs_machine.specs.Scans.{IsNext, HasNext, IsLookOfOpen, IsShapedRunning, cased_after, scan_after};
 
 use crate::scan::Scan;
 use case_order::{NoMemory, Share};
@@ -26,16 +26,20 @@ pub(crate) enum Next {
 
 /// Where the scan with the number goes on.
 ///
-/// The only error is want of memory.
+/// The only error is want of memory, which comes only where a location is left.
 pub(crate) fn next_of(scans: &[Option<Scan>], scan: usize) -> Result<Next, NoMemory>
     requires { scan < length scans.now }
-    ensures { IfOk result (λ next. IsNext (running_of (cased_at scans.now scan)) next) }
+    ensures next { IfOk result (λ next. IsNext (running_of (cased_at scans.now scan)) next) }
+    ensures left { OnErr result (HasNext (running_of (cased_at scans.now scan))) }
 {
     match &scans[scan] {
         None => Ok(Next::Closed),
         Some(scan) => match scan.next() {
             None => Ok(Next::Done),
-            Some(path) => Ok(Next::Location(path.share()?)),
+            Some(path) => match path.share() {
+                Ok(path) => Ok(Next::Location(path)),
+                Err(NoMemory) => Err(NoMemory),
+            },
         },
     }
 }

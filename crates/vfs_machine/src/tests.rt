@@ -45,7 +45,7 @@ fn machine(
     );
     match made {
         Ok(machine) => Ok(machine),
-        Err((_, _, _, refused)) => Err(refused),
+        Err((_, _, refused)) => Err(refused),
     }
 }
 
@@ -129,6 +129,69 @@ fn assert_kinds<T: Tree, R: Retain, V: Versions>(
     Ok(())
 }
 
+/// Asserts the digest of the part at each path, None where nothing is retained there, and the
+/// digest None where nothing was seen there.
+fn assert_parts<T: Tree, R: Retain, V: Versions>(
+    rt: &impl Abort,
+    alloc: Global,
+    machine: &Machine<T, R, V>,
+    wants: &[(&str, Option<Option<Digest>>)],
+) -> Result<(), Fail> {
+    for (text, want) in wants {
+        let part = machine.part(&path(alloc, text)?)?;
+        assert_eq!(rt; part.map(|part| part.digest()), *want, "at {text}");
+    }
+    Ok(())
+}
+
+/// Scans the path, of which the reads tell these locations, kinds and numbers left; gives the
+/// answer of the publication.
+fn published<T: Tree, R: Retain, V: Versions>(
+    rt: &impl Abort,
+    alloc: Global,
+    machine: &mut Machine<T, R, V>,
+    at: &str,
+    version: u64,
+    reads: &[(&str, Kind, u64)],
+) -> Result<Answer, Fail> {
+    let began = machine.begin(15, &path(alloc, at)?);
+    assert_eq!(rt; began, Began::Version(version), "at {at}");
+    for (location, kind, left) in reads {
+        assert_read(rt, alloc, machine, location, *kind, *left)?;
+    }
+    assert!(rt; matches!(machine.read(15), Readed::Done), "at {at}");
+    Ok(publish(alloc, machine, 15)?)
+}
+
+/// A scan is begun, dropped, and dropped again.
+fn assert_dropped<T: Tree, R: Retain, V: Versions>(
+    rt: &impl Abort,
+    machine: &mut Machine<T, R, V>,
+    at: &Path,
+) {
+    assert!(rt; !machine.scanning(15));
+    assert_eq!(rt; machine.begin(15, at), Began::Version(0));
+    assert!(rt; machine.scanning(15));
+    assert!(rt; !machine.scanning(14));
+    assert!(rt; machine.drop_scan(15));
+    assert!(rt; !machine.scanning(15));
+    assert!(rt; !machine.drop_scan(15));
+    assert!(rt; matches!(machine.read(15), Readed::NoScan));
+}
+
+/// The case of the machine's tree, and the digest of what is retained at the path.
+fn assert_left<T: Tree + Drop, R: Retain + Drop, V: Versions + Drop>(
+    rt: &impl Abort,
+    machine: Machine<T, R, V>,
+    at: &Path,
+    want: Option<Digest>,
+) {
+    let (tree, retained) = machine.into_parts();
+    assert_eq!(rt; tree.case(), Case::Insensitive);
+    assert_eq!(rt; retained.case(), Case::Insensitive);
+    assert_eq!(rt; retained.find(at).map(|glance| glance.digest), Some(want));
+}
+
 /// A file is written, and its event delivered.
 fn assert_written<T: Tree, R: Retain, V: Versions + Drop>(
     rt: &impl Abort,
@@ -141,6 +204,7 @@ fn assert_written<T: Tree, R: Retain, V: Versions + Drop>(
     assert_eq!(rt; machine.edit(&write(alloc, "/f")?), Edited::Done);
     assert!(rt; !machine.settled());
     assert!(rt; matches!(machine.deliver(), Delivered::Event(_)));
+    assert!(rt; machine.settled());
     Ok(())
 }
 
@@ -245,26 +309,61 @@ fn child_that_went_between_the_reads_is_left_out(rt: HostRuntime) -> Result<(), 
 }
 
 #[test]
-fn root_is_scanned(rt: HostRuntime) -> Result<(), Fail> {
+fn directory_is_retained(rt: HostRuntime) -> Result<(), Fail> {
     let alloc = rt.alloc();
     let mut machine = machine(alloc, 8)?;
     make_directory(&rt, alloc, &mut machine)?;
-    assert_eq!(rt; machine.begin(15, &Path::root()), Began::Version(0));
-    for (at, kind, left) in [
+    assert_dropped(&rt, &mut machine, &path(alloc, "/d")?);
+    let reads = [
         ("/", Kind::Dir, 1),
         ("/d", Kind::Dir, 2),
         ("/d/a", Kind::File, 1),
         ("/d/b", Kind::File, 0),
-    ] {
-        assert_read(&rt, alloc, &mut machine, at, kind, left)?;
-    }
-    assert_eq!(rt; publish(alloc, &mut machine, 15)?, Answer::Stored);
+    ];
+    let first = published(&rt, alloc, &mut machine, "/d", 0, &reads[1..])?;
+    assert_eq!(rt; first, Answer::Stored);
+    let file = Some(file_digest(b"abc"));
+    let wants = [("/d/a", Some(file)), ("/D/c", Some(None)), ("/x", None)];
+    assert_parts(&rt, alloc, &machine, &wants)?;
+    let whole = published(&rt, alloc, &mut machine, "/", 0, &reads)?;
+    assert_eq!(rt; whole, Answer::Stored);
     let wants = [
         ("/", Some(Kind::Dir)),
         ("/d/b", Some(Kind::File)),
         ("/e", Some(Kind::Missing)),
     ];
-    assert_kinds(&rt, alloc, &machine, &wants)
+    assert_kinds(&rt, alloc, &machine, &wants)?;
+    assert_left(&rt, machine, &path(alloc, "/D/B")?, file);
+    Ok(())
+}
+
+#[test]
+fn stale_comes_before_covered(rt: HostRuntime) -> Result<(), Fail> {
+    let alloc = rt.alloc();
+    let mut machine = machine(alloc, 8)?;
+    make_directory(&rt, alloc, &mut machine)?;
+    // The scan 0 is overtaken by the event of `/d`, and a scan of `/d` then covers it.
+    assert_eq!(rt; machine.begin(0, &path(alloc, "/d/a")?), Began::Version(0));
+    assert!(rt; matches!(machine.read(0), Readed::Saw(_, Kind::File, 0)));
+    assert!(rt; matches!(machine.deliver(), Delivered::Event(_)));
+    let reads = [
+        ("/d", Kind::Dir, 2),
+        ("/d/a", Kind::File, 1),
+        ("/d/b", Kind::File, 0),
+    ];
+    let above = published(&rt, alloc, &mut machine, "/d", 1, &reads)?;
+    assert_eq!(rt; above, Answer::Stored);
+    assert_eq!(rt; publish(alloc, &mut machine, 0)?, Answer::Stale(1));
+    let fresh = published(
+        &rt,
+        alloc,
+        &mut machine,
+        "/d/a",
+        1,
+        &[("/d/a", Kind::File, 0)],
+    )?;
+    assert_eq!(rt; fresh, Answer::Covered);
+    Ok(())
 }
 
 #[test]

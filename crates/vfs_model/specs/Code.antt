@@ -1,15 +1,17 @@
 -- Codes of snapshots, of scans in progress and of all that a machine keeps: proofs tell values apart by their codes, and so a struct may have them as its value.
-use Rattle.std.specs.Prelude.{◌≡◌, ℕ, Bool, true, false, List, Option, Some, None}
-use Rattle.std.proofs.Common.{refl, sym, ap}
-use Rattle.std.specs.Coded.{Coded, code_by, coded×, coded_ℕ, coded_list, coded_option, coded_bool}
+use Rattle.std.specs.Prelude.{◌≡◌, ◌⊎◌, ℕ, zero, suc, Bool, true, false, List, Option, Some, None}
+use Rattle.std.proofs.Common.{refl, sym, ap, inl, inr}
+use Rattle.std.specs.Coded.{Coded, code_by, coded×, coded⊎, coded_ℕ, coded_list, coded_option, coded_bool}
 use base.Stored.{Gv, gnil, gnum, gcons}
 use Rattle.vfs_model.specs.Paths.{Path, Case, Sensitive, Insensitive}
 use Rattle.vfs_model.specs.World.{World, Entry, Node, Directory, Regular}
+use Rattle.vfs_model.specs.Edit.{Refusal, Root, NoParent, NotDir, Exists, Absent, IntoItself, TooDeep, Crowded, ReadOnly}
 use Rattle.vfs_model.specs.Pending.{Pending}
 use Rattle.vfs_model.specs.Retained.{Pair, Retained}
-use Rattle.vfs_model.specs.Scanning.{PartialSnapshot, Unread, NotThere, FileRead, DirRead, PartialChildren, NoChildren, PartialChild}
+use Rattle.vfs_model.specs.Scanning.{Look, SeesNothing, SeesFile, SeesDir, PartialSnapshot, Unread, NotThere, FileRead, DirRead, PartialChildren, NoChildren, PartialChild}
 use Rattle.vfs_model.specs.Fingerprint.{Sensitivity, Absolute, Relative, NameOnly, Ignored, Input, Seen}
-use Rattle.vfs_model.specs.State.{KeptPrint}
+use Rattle.vfs_model.specs.State.{KeptPrint, EditAnswer, Refuses, Does, TreeAnswer, ToEdit, ToLook}
+use Rattle.vfs_model.specs.History.{BoardName, Change, Kept, Gone, AllGone, ChangeLog}
 use Rattle.vfs_model.specs.Stands.{RunningScan, Parts}
 use Rattle.vfs_model.specs.Snapshot.{Snapshot, Missing, File, Dir, Children, Nothing, Child}
 
@@ -188,10 +190,125 @@ kept_code = code_by (List Seen × List ℕ) (coded× (coded_list seen_code) byte
 abbrev pub running_code : Coded RunningScan
 running_code = code_by (Path × (ℕ × PartialSnapshot)) (coded× path_code (coded× coded_ℕ partial_code)) (λ r. (r.path, (r.seen, r.partial))) (λ p. record { path = p.0; seen = p.1.0; partial = p.1.1 }) (λ _. refl)
 
+-- ---- what a tree answered
+
+abbrev pub number_of_refusal : Refusal → ℕ
+number_of_refusal Root = 0
+number_of_refusal NoParent = 1
+number_of_refusal NotDir = 2
+number_of_refusal Exists = 3
+number_of_refusal Absent = 4
+number_of_refusal IntoItself = 5
+number_of_refusal TooDeep = 6
+number_of_refusal Crowded = 7
+number_of_refusal ReadOnly = 8
+
+abbrev pub refusal_by : ℕ → Refusal
+refusal_by zero = Root
+refusal_by (suc zero) = NoParent
+refusal_by (suc (suc zero)) = NotDir
+refusal_by (suc (suc (suc zero))) = Exists
+refusal_by (suc (suc (suc (suc zero)))) = Absent
+refusal_by (suc (suc (suc (suc (suc zero))))) = IntoItself
+refusal_by (suc (suc (suc (suc (suc (suc zero)))))) = TooDeep
+refusal_by (suc (suc (suc (suc (suc (suc (suc zero))))))) = Crowded
+refusal_by (suc (suc (suc (suc (suc (suc (suc (suc n)))))))) = ReadOnly
+
+pub refusal_by-is : (r : Refusal) → refusal_by (number_of_refusal r) ≡ r
+refusal_by-is Root = refl
+refusal_by-is NoParent = refl
+refusal_by-is NotDir = refl
+refusal_by-is Exists = refl
+refusal_by-is Absent = refl
+refusal_by-is IntoItself = refl
+refusal_by-is TooDeep = refl
+refusal_by-is Crowded = refl
+refusal_by-is ReadOnly = refl
+
+abbrev pub refusal_code : Coded Refusal
+refusal_code = code_by ℕ coded_ℕ number_of_refusal refusal_by refusal_by-is
+
+abbrev pub look_parts : Look → Option (List ℕ ⊎ Path)
+look_parts SeesNothing = None
+look_parts (SeesFile bytes) = Some (inl bytes)
+look_parts (SeesDir names) = Some (inr names)
+
+abbrev pub look_by : Option (List ℕ ⊎ Path) → Look
+look_by None = SeesNothing
+look_by (Some (inl bytes)) = SeesFile bytes
+look_by (Some (inr names)) = SeesDir names
+
+pub look_by-is : (l : Look) → look_by (look_parts l) ≡ l
+look_by-is SeesNothing = refl
+look_by-is (SeesFile bytes) = refl
+look_by-is (SeesDir names) = refl
+
+abbrev pub look_code : Coded Look
+look_code = code_by (Option (List ℕ ⊎ Path)) (coded_option (coded⊎ bytes_code path_code)) look_parts look_by look_by-is
+
+abbrev pub edit_answer_parts : EditAnswer → Refusal ⊎ List Path
+edit_answer_parts (Refuses r) = inl r
+edit_answer_parts (Does events) = inr events
+
+abbrev pub edit_answer_by : Refusal ⊎ List Path → EditAnswer
+edit_answer_by (inl r) = Refuses r
+edit_answer_by (inr events) = Does events
+
+pub edit_answer_by-is : (a : EditAnswer) → edit_answer_by (edit_answer_parts a) ≡ a
+edit_answer_by-is (Refuses r) = refl
+edit_answer_by-is (Does events) = refl
+
+abbrev pub edit_answer_code : Coded EditAnswer
+edit_answer_code = code_by (Refusal ⊎ List Path) (coded⊎ refusal_code (coded_list path_code)) edit_answer_parts edit_answer_by edit_answer_by-is
+
+abbrev pub tree_answer_parts : TreeAnswer → EditAnswer ⊎ Option Look
+tree_answer_parts (ToEdit a) = inl a
+tree_answer_parts (ToLook l) = inr l
+
+abbrev pub tree_answer_by : EditAnswer ⊎ Option Look → TreeAnswer
+tree_answer_by (inl a) = ToEdit a
+tree_answer_by (inr l) = ToLook l
+
+pub tree_answer_by-is : (a : TreeAnswer) → tree_answer_by (tree_answer_parts a) ≡ a
+tree_answer_by-is (ToEdit a) = refl
+tree_answer_by-is (ToLook l) = refl
+
+abbrev pub tree_answer_code : Coded TreeAnswer
+tree_answer_code = code_by (EditAnswer ⊎ Option Look) (coded⊎ edit_answer_code (coded_option look_code)) tree_answer_parts tree_answer_by tree_answer_by-is
+
+-- ---- what changed what is retained
+
+abbrev pub change_parts : Change → Option (Path × Option Snapshot)
+change_parts (Kept p s) = Some (p, Some s)
+change_parts (Gone p) = Some (p, None)
+change_parts AllGone = None
+
+abbrev pub change_of_path : Path → Option Snapshot → Change
+change_of_path p (Some s) = Kept p s
+change_of_path p None = Gone p
+
+abbrev pub change_by : Option (Path × Option Snapshot) → Change
+change_by (Some c) = change_of_path c.0 c.1
+change_by None = AllGone
+
+pub change_by-is : (c : Change) → change_by (change_parts c) ≡ c
+change_by-is (Kept p s) = refl
+change_by-is (Gone p) = refl
+change_by-is AllGone = refl
+
+abbrev pub change_code : Coded Change
+change_code = code_by (Option (Path × Option Snapshot)) (coded_option (coded× path_code (coded_option snapshot_code))) change_parts change_by change_by-is
+
+abbrev pub log_code : Coded ChangeLog
+log_code = code_by (BoardName × List Change) (coded× bytes_code (coded_list change_code)) (λ l. (l.board, l.changes)) (λ p. record { board = p.0; changes = p.1 }) (λ _. refl)
+
+-- ---- all of it
+
 abbrev pub parts_code : {V : Type 0} → Coded V → Coded (Parts V)
 parts_code {V} v =
-    code_by ((Case × (Option World × ℕ)) × ((Pending × Retained) × (V × (List (Option RunningScan) × List KeptPrint))))
-    (coded× (coded× case_code (coded× (coded_option world_code) coded_ℕ)) (coded× (coded× pending_code retained_code) (coded× v (coded× (coded_list (coded_option running_code)) (coded_list kept_code)))))
-    (λ m. ((m.case, (m.content, m.faults)), ((m.pending, m.retained), (m.versions, (m.scans, m.kept)))))
-    (λ p. record { case = p.0.0; content = p.0.1.0; faults = p.0.1.1; pending = p.1.0.0; retained = p.1.0.1; versions = p.1.1.0; scans = p.1.1.1.0; kept = p.1.1.1.1 })
+    code_by ((Case × (Option World × (ℕ × Option (List TreeAnswer)))) × ((Pending × (Retained × Option ChangeLog)) × (V × (List (Option RunningScan) × List KeptPrint))))
+    (coded× (coded× case_code (coded× (coded_option world_code) (coded× coded_ℕ (coded_option (coded_list tree_answer_code)))))
+    (coded× (coded× pending_code (coded× retained_code (coded_option log_code))) (coded× v (coded× (coded_list (coded_option running_code)) (coded_list kept_code)))))
+    (λ m. ((m.case, (m.content, (m.faults, m.answers))), ((m.pending, (m.retained, m.log)), (m.versions, (m.scans, m.kept)))))
+    (λ p. record { case = p.0.0; content = p.0.1.0; faults = p.0.1.1.0; answers = p.0.1.1.1; pending = p.1.0.0; retained = p.1.0.1.0; log = p.1.0.1.1; versions = p.1.1.0; scans = p.1.1.1.0; kept = p.1.1.1.1 })
     (λ _. refl)

@@ -122,6 +122,19 @@ pub data Change : Type 0 where
   Gone : (path : Path) → Change
   AllGone : Change
 
+-- the name of a board on which changes are shown; which numbers it has says nothing but which board it is
+abbrev pub BoardName : Type 0
+BoardName = List ℕ
+
+-- the changes so far, in order, and the board on which they are shown
+pub record ChangeLog : Type 0 where
+  pub board : BoardName
+  pub changes : List Change
+
+-- the log with these changes behind the others; its board stays
+abbrev pub with_changes : List Change → ChangeLog → ChangeLog
+with_changes more log = record { board = log.board; changes = log.changes ++ more }
+
 -- the change of a publish that stored what the scan read
 abbrev pub change_kept : Option Scan → List Change
 change_kept None = []

@@ -6,7 +6,7 @@ use Rattle.vfs_model.specs.World.{World, at, IsDir, status_of, IsWorld}
 use Rattle.vfs_model.specs.Snapshot.{IsTree}
 use Rattle.vfs_model.specs.Scan.{Agrees, scan}
 use Rattle.vfs_model.specs.Pending.{is_hit}
-use Rattle.vfs_model.specs.Retained.{Pair, ancestors, IsInShape}
+use Rattle.vfs_model.specs.Retained.{Pair, Retained, ancestors, IsInShape}
 use Rattle.vfs_model.specs.Scanning.{Scan, PartialSnapshot, Unread, NotThere, FileRead, DirRead, Look, names_seen, next_left, IsListed, IsPartialTree, IsShallow, IsFront, Tells, is_overtaken}
 use Rattle.vfs_model.specs.Fingerprint.{Input, Seen, fingerprint}
 use Rattle.vfs_model.specs.State.{KeptPrint, State, Call, CallRead, Answers, scan_of}
@@ -151,8 +151,12 @@ fingerprint_of case world inputs = fingerprint case (map (scanned_input case wor
 abbrev pub inputs_of : KeptPrint → List Input
 inputs_of k = map (λ (v : Seen). v.input) k.seen
 
--- what is known is what a scan of the world gives: the snapshots, the known directories and the kept fingerprints
-pub record IsScanned (s : State) : Type 0 where
-  pub pairs : Each (λ (r : Pair). r.snapshot ≡ scan s.case s.world r.path) s.retained.pairs
-  pub dirs : Each (λ d. status_of (at s.case s.world d) ≡ IsDir) s.retained.dirs
-  pub kept : Each (λ (k : KeptPrint). k.digest ≡ fingerprint_of s.case s.world (inputs_of k)) s.kept
+-- what is retained and kept is what a scan of the world gives: the snapshots, the known directories and the kept fingerprints
+pub record AreScanned (case : Case) (world : World) (retained : Retained) (kept : List KeptPrint) : Type 0 where
+  pub pairs : Each (λ (r : Pair). r.snapshot ≡ scan case world r.path) retained.pairs
+  pub dirs : Each (λ d. status_of (at case world d) ≡ IsDir) retained.dirs
+  pub prints : Each (λ (k : KeptPrint). k.digest ≡ fingerprint_of case world (inputs_of k)) kept
+
+-- all that a state knows is what a scan of its world gives
+abbrev pub IsScanned : State → Type 0
+IsScanned s = AreScanned s.case s.world s.retained s.kept

@@ -6,7 +6,8 @@ use Rattle.vfs_model.specs.World.{World, IsWorld, IsSameBelow}
 use Rattle.vfs_model.specs.Pending.{Pending, version, is_hit}
 use Rattle.vfs_model.specs.Retained.{Retained, IsInShape}
 use Rattle.vfs_model.specs.Scanning.{PartialSnapshot, Scan}
-use Rattle.vfs_model.specs.State.{State, KeptPrint}
+use Rattle.vfs_model.specs.State.{State, KeptPrint, TreeAnswer}
+use Rattle.vfs_model.specs.History.{ChangeLog}
 use Rattle.vfs_model.specs.Sound.{IsCurrent, IsStillDir, IsTelling, IsTrueKept, IsSound, IsShaped}
 
 -- the versions are those of this list of invalidated places, and the count is its length
@@ -26,8 +27,12 @@ pub record Parts (V : Type 0) : Type 0 where
   pub content : Option World
   -- how many looks failed
   pub faults : ℕ
+  -- what the tree answered so far, where it tells that
+  pub answers : Option (List TreeAnswer)
   pub pending : Pending
   pub retained : Retained
+  -- what changed what is retained, where that tells its changes
+  pub log : Option ChangeLog
   pub versions : V
   pub scans : List (Option RunningScan)
   pub kept : List KeptPrint

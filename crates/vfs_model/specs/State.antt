@@ -109,6 +109,11 @@ pub record Answers : Type 0 where
   pub edit : EditAnswer
   pub look : Option Look
 
+-- one answer in the list of all that a tree gave: to an edit, or to a look, of which None is one that failed; want of memory is no answer
+pub data TreeAnswer : Type 0 where
+  ToEdit : EditAnswer → TreeAnswer
+  ToLook : Option Look → TreeAnswer
+
 -- ---- edits and events
 
 -- each of the events fits in the queue when its turn comes

@@ -11,3 +11,4 @@ pub mod ScannedLemmas
 pub mod OpeningLemmas
 pub mod ReadLemmas
 pub mod RunLemmas
+pub mod SoundRunLemmas

@@ -11,7 +11,7 @@ use Rattle.vfs_model.specs.Scanning.{Scan, next_left}
 use Rattle.vfs_model.specs.State.{State, Answers, CallBegin, CallRead, CallPublish, Reply, Version, AlreadyOpen, begin_or, read_or, read_next, scan_of, look_due, look_due_at, told_step, answers}
 use Rattle.vfs_model.specs.Stands.{Parts, Stands, RunningScan, AreSlotsOf}
 use Rattle.vfs_model.specs.History.{is_no_memory}
-use Rattle.vfs_machine.specs.Steps.{IsStepOf, IsToldStepOf}
+use Rattle.vfs_model.specs.Steps.{IsStepOf, IsToldStepOf}
 use Rattle.vfs_laws.proofs.Splits.{split}
 use Rattle.vfs_laws.proofs.PathLemmas.{same_place-refl}
 use Rattle.vfs_laws.proofs.WorldLemmas.{length-place}

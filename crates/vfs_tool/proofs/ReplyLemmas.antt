@@ -10,7 +10,7 @@ use Rattle.vfs_model.specs.State.{State, Call, Answers, Reply, answers, told_ste
 use Rattle.world_model.specs.Meaning.{refusal_of, number_of}
 use Rattle.world_model.specs.declared.edit.EditError.{EditError}
 use Rattle.world_model.specs.declared.edit.EditError.TheVariants as error
-use Rattle.vfs_machine.specs.Steps.{IsStepOf, IsToldStepOf}
+use Rattle.vfs_model.specs.Steps.{IsStepOf, IsToldStepOf}
 use Rattle.vfs_tool.specs.Replies.{Tells, reply_text, number_of_refusal}
 use Rattle.vfs_tool.specs.Report.{by_call, settled, after_deliveries}
 use Rattle.vfs_tool.specs.Printing.{IsPrinted}

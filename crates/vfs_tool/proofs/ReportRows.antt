@@ -1,5 +1,5 @@
 -- Worked reports, line by line, computed from the definitions.
-use Rattle.std.proofs.Common.{◌≡◌, ℕ, List, [], ◌∷◌, ◌++◌, refl}
+use Rattle.std.proofs.Common.{◌≡◌, ℕ, List, [], ◌∷◌, ◌++◌, length, refl}
 use Rattle.std.specs.Prelude.{codes}
 use Rattle.std.specs.Fmt.{decimal}
 use Rattle.hex.specs.Hex.{encode_lower}
@@ -14,6 +14,7 @@ use Rattle.script_reader.specs.declared.script.Line.{Line}
 use Rattle.script_reader.specs.declared.script.Script.{Script}
 use Rattle.world_model.specs.declared.edit.Edit.TheVariants.{Write, Mkdir, Remove, Move}
 use Rattle.vfs_tool.specs.Report.{lines_of}
+use Rattle.vfs_tool.specs.States.{states_of}
 
 -- the command by the caller
 abbrev by : ℕ → Command → Line
@@ -79,3 +80,12 @@ whole_scans_are_counted = refl
 edits_are_done_or_refused : lines_of (script (Dir d ∷ Dir d ∷ []) (by 0 (Edit (Mkdir (codes "x" ∷ codes "y" ∷ []))) ∷ by 0 (Edit (Move d (in_d (codes "e")))) ∷ by 0 (Edit (Move d (codes "e" ∷ []))) ∷ by 0 (Edit (Remove d)) ∷ by 0 Settle ∷ []))
     ≡ line (codes "ok") ∷ line (codes "refused " ++ decimal 4) ∷ line (codes "refused " ++ decimal 2) ∷ line (codes "refused " ++ decimal 6) ∷ line (codes "ok") ∷ line (codes "refused " ++ decimal 5) ∷ line (codes "settled " ++ decimal 2) ∷ []
 edits_are_done_or_refused = refl
+
+-- the states of a run: the opening one, one after the write, two of the settle, three of the scan (begun, read, published), and one after the find
+a_run_goes_through_eight_states : length (states_of (script [] (by 0 (write_f (codes "a")) ∷ by 0 Settle ∷ by 0 (Scan f) ∷ by 0 (Find f) ∷ []))) ≡ 8
+unfolding scan scan_down
+a_run_goes_through_eight_states = refl
+
+-- one after each opening line too
+opening_lines_go_through_four_states : length (states_of (script two_files [])) ≡ 4
+opening_lines_go_through_four_states = refl

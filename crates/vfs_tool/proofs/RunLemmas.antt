@@ -1,5 +1,5 @@
 -- A script as a whole: its opening lines over an empty tree, and its command lines over what they made.
-use Rattle.std.proofs.Common.{◌≡◌, ℕ, ◌≤◌, List, [], Option, Some, refl, sym, ap, subst}
+use Rattle.std.proofs.Common.{◌≡◌, ℕ, ◌≤◌, List, [], Option, Some, None, refl, sym, ap, subst}
 use Rattle.std.proofs.KnownBytes.{Appends-trans}
 use Rattle.std.proofs.lemmas.List.Folds.{concat-append}
 use Rattle.std.specs.List.{concat}
@@ -20,7 +20,7 @@ use Rattle.vfs_tool.proofs.PrintLemmas.{breaks-before, broken-after}
 
 -- what a tree in memory tells
 abbrev pub told_by : Held → TreeTold
-told_by t = record { case = t.case; content = Some t.world; faults = 0 }
+told_by t = record { case = t.case; content = Some t.world; faults = 0; answers = None }
 
 -- the world after the opening lines
 abbrev opened : Script → World

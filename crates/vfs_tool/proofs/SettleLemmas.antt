@@ -8,7 +8,8 @@ use Rattle.vfs_model.specs.History.{is_no_memory}
 use Rattle.vfs_machine.specs.declared.answers.Delivered.{Delivered}
 use Rattle.vfs_machine.specs.declared.answers.Delivered.TheVariants as delivered
 use Rattle.vfs_machine.specs.Deliveries.{Counts}
-use Rattle.vfs_machine.specs.Steps.{IsStepOf, IsOutcome, outcome_unless, delivered_reply}
+use Rattle.vfs_model.specs.Steps.{IsStepOf, IsOutcome, outcome_unless}
+use Rattle.vfs_machine.specs.Steps.{delivered_reply}
 use Rattle.vfs_tool.specs.Report.{after_deliveries}
 use Rattle.vfs_tool.specs.Settling.{is_delivery, EndsAfterDue, Delivers, Settles}
 

@@ -9,3 +9,4 @@ pub mod Output
 pub mod Run
 pub mod Scanned
 pub mod Lines
+pub mod States

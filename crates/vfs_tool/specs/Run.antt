@@ -1,14 +1,16 @@
 -- What a run took from its source and put into its sink.
 use Rattle.std.specs.Prelude.{◌≡◌, ℕ, List, [], ◌∷◌, take, map, codes, string_bytes, String}
 use Rattle.std.specs.declared.option.Option.{Option}
-use Rattle.std.specs.List.{concat}
+use Rattle.std.specs.List.{concat, AllByRecursion as Each}
 use Rattle.std.specs.Global.{Global}
 use Rattle.std.specs.Io.KnownBytes.{Appends}
+use Rattle.vfs_model.specs.Sound.{IsSound}
 use Rattle.script_reader.specs.declared.script.Script.{Script}
 use Rattle.script_reader.specs.declared.script.TextKind.TheVariants.{Replay}
 use Rattle.script_reader.specs.Grammar.{IsTextOf, FirstBad}
 use Rattle.vfs_tool.specs.Input.{TakesAll}
 use Rattle.vfs_tool.specs.Report.{lines_of, report_of}
+use Rattle.vfs_tool.specs.States.{states_of}
 use Rattle.vfs_tool.specs.declared.status.Status.{Status}
 use Rattle.vfs_tool.specs.declared.status.Status.TheVariants.{Done, BadScript, Usage, ReadFault, WriteFault, NoMemory, TooLong}
 
@@ -18,9 +20,12 @@ IsReplay words = map string_bytes words ≡ codes "replay" ∷ []
 
 -- ---- what was put for a text
 
--- the text is that of a script, and the whole report on it was put
-abbrev pub PutsReport : List ℕ → Option (List ℕ) → Option (List ℕ) → Type 0
-PutsReport text before after = (s : Script) × IsTextOf Replay text s × Appends before after (report_of s)
+-- the text is that of a script, the whole report on it was put, and each state that its run goes through is sound
+pub record PutsReport (text : List ℕ) (before after : Option (List ℕ)) : Type 0 where
+  pub script : Script
+  pub is : IsTextOf Replay text script
+  pub put : Appends before after (report_of script)
+  pub sound : Each IsSound (states_of script)
 
 -- the text is that of a script, and a prefix of the report on it was put
 abbrev pub PutsPrefix : List ℕ → Option (List ℕ) → Option (List ℕ) → Type 0

@@ -1,11 +1,20 @@
-//! What makes `settle` and `scan` end, as laws of the model alone.
+//! What makes `settle` and `scan` end, and what holds of each state of a run, as laws of the model
+//! alone.
 
-ghost use Rattle.std.specs.Prelude.{◌≡◌, ◌<◌, ℕ, None, length};
+ghost use Rattle.std.specs.Prelude.{◌≡◌, ◌<◌, ◌++◌, ◌∷◌, [], ℕ, List, None, length};
+ghost use Rattle.std.specs.List.{AllByRecursion as Each};
+ghost use Rattle.script_reader.specs.declared.script.Command.{Command};
+ghost use Rattle.script_reader.specs.declared.script.Script.{Script};
+ghost use Rattle.script_reader.specs.declared.script.TextKind.TheVariants.{Replay};
+ghost use Rattle.script_reader.specs.Grammar.{IsTextOf};
 ghost use Rattle.vfs_model.specs.Paths.{Path};
 ghost use Rattle.vfs_model.specs.World.{AreShort};
+ghost use Rattle.vfs_model.specs.Sound.{IsSound};
 ghost use Rattle.vfs_model.specs.State.{State, scan_of};
+ghost use Rattle.vfs_tool.specs.Report.{printed_for};
 ghost use Rattle.vfs_tool.specs.Scanned.{EndsAfterReads};
 ghost use Rattle.vfs_tool.specs.Settling.{EndsAfterDue};
+ghost use Rattle.vfs_tool.specs.States.{states_for, states_of};
 
 /// From each state as many deliveries as are due deliver something, and the next answers that
 /// nothing is pending: so the number that a `settle` prints is that of the deliveries that are due.
@@ -19,4 +28,20 @@ pub fn settling_ends()
 pub fn scanning_ends()
     ensures { (s : State) (caller : ℕ) (p : Path) → AreShort s.world
         → caller < length s.scans → scan_of s caller ≡ None → EndsAfterReads s caller p }
+{}
+
+/// Each state that the run of a script goes through is sound, where the script has a text: all that
+/// is known in it is so in the world, except where an event waits, and while the mark is set. These
+/// are the opening states over the worlds of the opening lines, the states after the calls of the
+/// command lines, and within a `settle` and a `scan` those after each delivery and each read.
+pub fn runs_are_sound()
+    ensures { (text : List ℕ) (script : Script) → IsTextOf Replay text script
+        → Each IsSound (states_of script) }
+{}
+
+/// The last of the states that a command goes through is the state after it, in which the next line
+/// of the report begins: so the states of a run are those of the run that is reported.
+pub fn lines_end_in_their_last_state()
+    ensures { (s : State) (caller : ℕ) (command : Command) → (front : List State)
+        × (states_for s caller command ≡ front ++ (printed_for s caller command).state ∷ []) }
 {}

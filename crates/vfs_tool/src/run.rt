@@ -127,7 +127,8 @@ pub fn run<S: Source, K: Sink>(
         Keeps (S.left source.old) (S.left source.new)
         × Keeps (K.written sink.old) (K.written sink.new) }
 
-    // The input was taken to its end, it is the text of a script, and the whole report was put.
+    // The input was taken to its end, it is the text of a script, the whole report was put, and each
+    // state of that run is sound.
     ensures done { result ≡ Status.Done →
         Reports (S.left source.old) (S.left source.new) (K.written sink.old) (K.written sink.new) }
 

@@ -1,8 +1,9 @@
 -- What the types of the code stand for.
-use Rattle.std.specs.Prelude.{◌≡◌, ℕ, List, [], ◌∷◌, Option, Some, None}
+use Rattle.std.specs.Prelude.{◌≡◌, ℕ, List, [], ◌∷◌, Option, Some, None, Result, Ok, Err}
 use Rattle.vfs_model.specs.Paths.{Path}
 use Rattle.vfs_model.specs.Edit.{Edit, Write, Mkdir, Remove, Move, Refusal, Root, NoParent, NotDir, Exists, Absent, IntoItself, TooDeep, Crowded, ReadOnly}
 use Rattle.vfs_model.specs.Scanning.{Look, SeesNothing, SeesFile, SeesDir}
+use Rattle.vfs_model.specs.State.{Refuses, Does, TreeAnswer, ToEdit, ToLook}
 use Rattle.world_model.specs.declared.edit.Edit.{Edit as EditValue}
 use Rattle.world_model.specs.declared.edit.Edit.TheVariants as edit_value
 use Rattle.world_model.specs.declared.edit.EditError.{EditError}
@@ -11,6 +12,8 @@ use Rattle.world_model.specs.declared.edit.Events.{Events}
 use Rattle.world_model.specs.declared.edit.Events.TheVariants.{One, Two}
 use Rattle.world_model.specs.declared.edit.ApplyError.{ApplyError}
 use Rattle.world_model.specs.declared.edit.ApplyError.TheVariants as apply_error
+use Rattle.world_model.specs.declared.entry.LookError.{LookError}
+use Rattle.world_model.specs.declared.entry.LookError.TheVariants as look_error
 use Rattle.world_model.specs.declared.entry.Entry.{Entry}
 use Rattle.world_model.specs.declared.entry.Entry.TheVariants.{Missing, File, Dir}
 
@@ -56,12 +59,19 @@ number_of error.TooDeep = 7
 number_of error.Crowded = 8
 number_of error.ReadOnly = 9
 
--- a refusal is the one that is due; want of memory may come at any time
-abbrev pub IsCause : Option Refusal → ApplyError → Type 0
-IsCause due (apply_error.Refused e) = due ≡ Some (refusal_of e)
-IsCause due apply_error.NoMemory = Unit {0}
-
 -- a refusal is the one that is due, and memory is wanting only where none is due
 abbrev pub IsRefusal : Option Refusal → ApplyError → Type 0
 IsRefusal due (apply_error.Refused e) = due ≡ Some (refusal_of e)
 IsRefusal due apply_error.NoMemory = due ≡ None
+
+-- what a look adds to the answers of a tree; want of memory is none
+abbrev pub look_answers : Result Entry LookError → List TreeAnswer
+look_answers (Ok entry) = ToLook (Some (look_seen entry)) ∷ []
+look_answers (Err look_error.Failed) = ToLook None ∷ []
+look_answers (Err look_error.NoMemory) = []
+
+-- what an edit adds to them
+abbrev pub edit_answers_of : Result Events ApplyError → List TreeAnswer
+edit_answers_of (Ok events) = ToEdit (Does (events_of events)) ∷ []
+edit_answers_of (Err (apply_error.Refused e)) = ToEdit (Refuses (refusal_of e)) ∷ []
+edit_answers_of (Err apply_error.NoMemory) = []

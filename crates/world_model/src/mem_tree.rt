@@ -22,7 +22,7 @@ use std::alloc::Global;
 use std::marker::Model;
 use vfs_path::{Name, Path};
 
-/// A tree in memory, which tells its content and has no faults.
+/// A tree in memory, which tells its content and has no faults; its answers it does not list.
 ///
 /// Contracts see its case and its world. An edit makes the directories on its way anew and shares
 /// everything else, so that want of memory leaves the tree as it was.
@@ -59,9 +59,9 @@ impl MemTree {
 }
 
 impl Tree for MemTree {
-    ghost use Rattle.std.specs.Prelude.{Some};
+    ghost use Rattle.std.specs.Prelude.{Some, None};
 
-    ghost told = { λ t. record { case = t.case; content = Some t.world; faults = 0 } };
+    ghost told = { λ t. record { case = t.case; content = Some t.world; faults = 0; answers = None } };
 
     ghost most_faults = { 0 };
 

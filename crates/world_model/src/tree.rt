@@ -1,6 +1,6 @@
 //! Trees.
 
-ghost use Rattle.std.specs.Prelude.{◌≡◌, ◌≤◌, ℕ, Some, None, IfOk, IfErr, OnOk, OnErr, length};
+ghost use Rattle.std.specs.Prelude.{◌≡◌, ◌≤◌, ℕ, Some, None, IfOk, IfErr, OnOk, OnErr, length, option_map};
 ghost use Rattle.vfs_model.specs.Paths.{place};
 ghost use Rattle.vfs_model.specs.World.{World, IsWorld};
 ghost use Rattle.vfs_model.specs.Edit as edits;
@@ -8,8 +8,8 @@ ghost use Rattle.vfs_model.specs.Scanning as scanning;
 ghost use Rattle.vfs_model.specs.Faults.{Rose};
 ghost use Rattle.vfs_model.specs.Sound.{IsLook};
 ghost use Rattle.world_model.specs.declared.entry.LookError.TheVariants as look_error;
-ghost use Rattle.world_model.specs.Told.{TreeTold, IsApplied};
-ghost use Rattle.world_model.specs.Meaning.{edit_of, events_of, look_seen, IsCause};
+ghost use Rattle.world_model.specs.Told.{TreeTold, IsApplied, with_answers};
+ghost use Rattle.world_model.specs.Meaning.{edit_of, events_of, look_seen, look_answers, edit_answers_of, IsRefusal};
 
 use crate::edit::{ApplyError, Edit, Events};
 use crate::entry::{Entry, LookError};
@@ -18,7 +18,9 @@ use vfs_path::Path;
 
 /// A tree of files, which may keep its content to itself.
 ///
-/// No call changes the case, nor whether the content is told. The count of faults never falls.
+/// Where it tells it, it has besides the list of its answers to looks and edits so far, in order;
+/// want of memory is no answer. No call changes the case, nor whether the content or the answers are
+/// told. The count of faults never falls.
 pub trait Tree {
     ghost told: { Self → TreeTold };
 
@@ -42,18 +44,20 @@ pub trait Tree {
         ensures limit { (told self.new).faults ≤ most_faults }
         ensures shape { IfOk result (λ entry. IsLook (told self.old).case (length path.now) (look_seen entry)) }
         ensures seen { IfOk result (λ entry. (w : World) → (told self.old).content ≡ Some w → look_seen entry ≡ scanning.look (told self.old).case w (place (told self.old).case path.now)) }
-        ensures failed { IfErr result (λ e. e ≡ look_error.Failed → Rose (told self.old).faults (told self.new).faults) };
+        ensures failed { IfErr result (λ e. e ≡ look_error.Failed → Rose (told self.old).faults (told self.new).faults) }
+        ensures answered { (told self.new).answers ≡ option_map (with_answers (look_answers result)) (told self.old).answers };
 
     /// Does the edit, and gives the paths that tell of it.
     ///
-    /// `Refused` carries the first refusal that holds, where the content is told; `NoMemory` is
-    /// want of memory. On either the content stays.
+    /// Where the content is told, `Refused` carries the first refusal that holds, and `NoMemory`,
+    /// which is want of memory, comes only where none holds. On either the content stays.
     fn apply(&mut self, edit: &Edit) -> Result<Events, ApplyError>
         ensures case { (told self.new).case ≡ (told self.old).case }
         ensures faults { (told self.old).faults ≤ (told self.new).faults }
         ensures events { IfOk result (λ events. events_of events ≡ edits.events (edit_of edit.now)) }
         ensures allowed { IfOk result (λ _. (w : World) → (told self.old).content ≡ Some w → edits.refusal (told self.old).case w (edit_of edit.now) ≡ None) }
         ensures applied { OnOk result (IsApplied (told self.old).case (edit_of edit.now) (told self.old).content (told self.new).content) }
-        ensures refused { IfErr result (λ e. (w : World) → (told self.old).content ≡ Some w → IsCause (edits.refusal (told self.old).case w (edit_of edit.now)) e) }
-        ensures kept { OnErr result ((told self.new).content ≡ (told self.old).content) };
+        ensures refused { IfErr result (λ e. (w : World) → (told self.old).content ≡ Some w → IsRefusal (edits.refusal (told self.old).case w (edit_of edit.now)) e) }
+        ensures kept { OnErr result ((told self.new).content ≡ (told self.old).content) }
+        ensures answered { (told self.new).answers ≡ option_map (with_answers (edit_answers_of result)) (told self.old).answers };
 }

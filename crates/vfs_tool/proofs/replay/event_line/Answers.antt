@@ -2,7 +2,8 @@ use Rattle.std.proofs.Common.{subst}
 use Rattle.std.proofs.lemmas.Result.{IfOk-weaker}
 use Rattle.vfs_model.specs.Paths.{Path}
 use Rattle.vfs_model.specs.State.{Answers, CallEvent}
-use Rattle.vfs_machine.specs.Steps.{IsStepOf, fit_reply}
+use Rattle.vfs_model.specs.Steps.{IsStepOf}
+use Rattle.vfs_machine.specs.Steps.{fit_reply}
 use Rattle.vfs_tool.proofs.ReplyLemmas.{step-printed}
 use Rattle.vfs_tool.proofs.replay.event_line.Goals as goal
 

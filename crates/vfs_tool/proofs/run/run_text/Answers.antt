@@ -1,5 +1,6 @@
 use Rattle.std.proofs.Common.{arith}
 use Rattle.vfs_tool.proofs.LineLemmas.{text-runs, text-few}
+use Rattle.vfs_tool.proofs.SoundRunLemmas.{states_of-sound}
 use Rattle.vfs_tool.proofs.run.run_text.Goals as goal
 
 pub run_script-requires-clause-lines : goal.run_script-requires-clause-lines
@@ -7,3 +8,11 @@ run_script-requires-clause-lines g c = text-runs c.args.text.now c.in-Ok.script 
 
 pub run_script-requires-clause-few : goal.run_script-requires-clause-few
 run_script-requires-clause-few g c = let few = text-few c.args.text.now c.in-Ok.script c.in-Ok.ensures.found in let fits = c.requires in omega (arith, few, fits)
+
+pub returns-in-Ok-run_script-clause-done : goal.returns-in-Ok-run_script-clause-done
+returns-in-Ok-run_script-clause-done g c = λ e. record {
+  script = c.in-Ok.script;
+  is = c.in-Ok.ensures.found;
+  put = c.in-Ok-run_script.ensures.ok;
+  sound = states_of-sound c.args.text.now c.in-Ok.script c.in-Ok.ensures.found;
+}

@@ -1,43 +1,16 @@
-use Rattle.std.proofs.Common.{◌≡◌, ◌∙◌, sym, refl, true, false, Some, None}
-use Rattle.vfs_model.specs.World.{World, IsWorld}
-use Rattle.vfs_model.specs.Edit.{refusal}
-use Rattle.world_model.specs.Meaning.{edit_of, events_of, refusal_of}
-use Rattle.world_model.specs.Told.{IsApplied}
-use Rattle.vfs_machine.specs.declared.answers.Edited.TheVariants as edited
-use Rattle.vfs_machine.proofs.ReadLemmas.{looked-stands}
-use Rattle.vfs_machine.proofs.EditLemmas.{edit-done, edit-told, IsDueAnswer}
+use Rattle.vfs_model.specs.State.{CallEdit}
+use Rattle.vfs_laws.proofs.KeepLemmas.{step-keeps}
+use Rattle.world_model.specs.Meaning.{edit_of}
+use Rattle.vfs_machine.specs.Steps.{edit_answers}
+use Rattle.vfs_machine.proofs.EditLemmas.{edit-told, edit-last}
 use Rattle.vfs_machine.proofs.machine.Machine.edit.Goals as goal
-use Rattle.vfs_machine.proofs.machine.Machine.edit.Goals.{then-put_all, else-put_all}
 
-pub returns-after-put_all-clause-step : goal.returns-after-put_all-clause-step
-returns-after-put_all-clause-step g c =
-    let applied : IsApplied c.self.inside.vfs.case (edit_of c.args.edit.now) (g.T.Tree.told c.self.inside.tree).content (g.T.Tree.told c.apply.new.self).content = rw (← c.self.invariant.one_case) c.in-Ok.ensures.applied in
-    let allowed : (w : World) → (g.T.Tree.told c.self.inside.tree).content ≡ Some w → refusal c.self.inside.vfs.case w (edit_of c.args.edit.now) ≡ None = rw (← c.self.invariant.one_case) c.in-Ok.ensures.allowed in
-    let whole : (w : World) → (g.T.Tree.told c.self.inside.tree).content ≡ Some w → IsWorld c.self.inside.vfs.case w = rw (← c.self.invariant.one_case) c.case-case.ensures.world in
-    rw (← c.self.view_is)
-    (elim c.if-put_all.branch [
-      | then-put_all w ↦ rw w.result-is
-          (λ s st. edit-done g.V.Versions.version g.V.Versions.count _ s (edit_of c.args.edit.now) true _ _ _ (events_of c.in-Ok.events) c.in-Ok.ensures.events (sym w.if-put_all.true ∙ c.put_all.ensures.fit) c.put_all.ensures.queue applied whole allowed st)
-      | else-put_all w ↦ rw w.result-is
-          (λ s st. edit-done g.V.Versions.version g.V.Versions.count _ s (edit_of c.args.edit.now) false _ _ _ (events_of c.in-Ok.events) c.in-Ok.ensures.events (sym w.if-put_all.false ∙ c.put_all.ensures.fit) c.put_all.ensures.queue applied whole allowed st)
-    ])
+pub invariant_of-self : goal.invariant_of-self
+invariant_of-self g c =
+    step-keeps g.V.Versions.version g.V.Versions.count _ _ (edit_answers (edit_of c.args.edit.now) c.edit.result) (CallEdit (edit_of c.args.edit.now)) _ c.ask_lengths.ensures c.edit.ensures.tells (λ s st. tt) c.edit.ensures.due c.edit.ensures.step c.self.invariant
 
-pub returns-after-put_all-clause-told : goal.returns-after-put_all-clause-told
-returns-after-put_all-clause-told g c =
-    let allowed : (w : World) → (g.T.Tree.told c.self.inside.tree).content ≡ Some w → refusal c.self.inside.vfs.case w (edit_of c.args.edit.now) ≡ None = rw (← c.self.invariant.one_case) c.in-Ok.ensures.allowed in
-    let due : (w : World) → (g.T.Tree.told c.self.inside.tree).content ≡ Some w → IsDueAnswer (refusal c.self.inside.vfs.case w (edit_of c.args.edit.now)) c.if-put_all.result =
-    λ w told. elim c.if-put_all.branch [
-      | then-put_all b ↦ rw b.result-is (allowed w told)
-      | else-put_all b ↦ rw b.result-is (allowed w told)
-    ] in
-    let step = rw (← c.self.view_is) at (returns-after-put_all-clause-step g c) in
-    rw (← c.self.view_is) (edit-told g.V.Versions.version g.V.Versions.count _ _ (edit_of c.args.edit.now) c.if-put_all.result step due)
+pub returns-clause-told : goal.returns-clause-told
+returns-clause-told g c = rw (← c.self.view_is) (edit-told g.V.Versions.version g.V.Versions.count _ _ (edit_of c.args.edit.now) c.edit.result c.edit.ensures.step c.edit.ensures.due)
 
-pub returns-in-Err-Refused-clause-told : goal.returns-in-Err-Refused-clause-told
-returns-in-Err-Refused-clause-told g c =
-    let refused = rw c.in-Err-Refused.field-0-is at c.in-Err-Refused.ensures.refused in
-    let due : (w : World) → (g.T.Tree.told c.self.inside.tree).content ≡ Some w → refusal c.self.inside.vfs.case w (edit_of c.args.edit.now) ≡ Some (refusal_of c.in-Err-Refused.e) = rw (← c.self.invariant.one_case) refused in
-    rw (← c.self.view_is)
-    (edit-told g.V.Versions.version g.V.Versions.count _ _ (edit_of c.args.edit.now) (edited.Refused c.in-Err-Refused.e)
-    (λ s st. (refl, looked-stands g.V.Versions.version g.V.Versions.count _ _ _ s c.in-Err-Refused.ensures.kept st))
-    due)
+pub returns-clause-last : goal.returns-clause-last
+returns-clause-last g c = rw (← c.self.view_is) (λ w told s st none. edit-last s (edit_of c.args.edit.now) c.edit.result (c.edit.ensures.due w told s st) none)

@@ -1,49 +1,20 @@
-use Rattle.std.proofs.Common.{◌≡◌, ◌∙◌, ℕ, sym, ap, arith, subst, Option, Some, None, option_map}
-use Rattle.vfs_model.specs.Scanning.{count_left}
-use Rattle.vfs_model.specs.Stands.{RunningScan}
-use Rattle.vfs_machine.specs.Cased.{CasedScan, scans_in, cased_at}
-use Rattle.vfs_machine.specs.Scans.{running_at, AreDigests, AreContentsOf, IsDone}
-use Rattle.vfs_machine.proofs.CasedLemmas.{running-is, count-alone, after-in, under-after}
-use Rattle.vfs_machine.proofs.PublishLemmas.{publish-closed, publish-unfinished, publish-whole, digests-of_contents, done-of_count}
+use Rattle.vfs_model.specs.State.{CallPublish}
+use Rattle.vfs_laws.proofs.KeepLemmas.{step-keeps}
+use Rattle.vfs_machine.proofs.StaleLemmas.{publish-stale}
+use Rattle.vfs_machine.proofs.ToldLemmas.{tells-as-before, not_asked}
 use Rattle.vfs_machine.proofs.machine.Machine.publish.Goals as goal
 
-pub returns-in-None-clause-step : goal.returns-in-None-clause-step
-returns-in-None-clause-step g c =
-    let none = count-alone c.self.inside.scans.items c.args.scan None (ap (λ xs. option_map (λ (s : CasedScan). count_left s.scan.partial) (cased_at xs c.args.scan)) (sym c.deref.ensures.value) ∙ sym c.left_of.ensures ∙ c.in-None.is) in
-    rw (← c.self.view_is) (λ a s st. publish-closed g.V.Versions.version g.V.Versions.count _ s c.args.scan none st)
-
-pub returns-then-left-gt0-clause-step : goal.returns-then-left-gt0-clause-step
-returns-then-left-gt0-clause-step g c =
-    let some = count-alone c.self.inside.scans.items c.args.scan (Some c.in-Some.left) (ap (λ xs. option_map (λ (s : CasedScan). count_left s.scan.partial) (cased_at xs c.args.scan)) (sym c.deref.ensures.value) ∙ sym c.left_of.ensures ∙ c.in-Some.is) in
-    rw (← c.self.view_is) (λ a s st. publish-unfinished g.V.Versions.version g.V.Versions.count _ s c.args.scan c.in-Some.left some c.if-left-gt0.true st)
-
-pub publish_scan-published-requires-clause-done : goal.publish_scan-published-requires-clause-done
-publish_scan-published-requires-clause-done g c =
-    let nothing : c.in-Some.left ≡ 0 = omega (arith, c.if-left-gt0.false) in
-    let done = count-alone c.self.inside.scans.items c.args.scan (Some 0) (ap (λ xs. option_map (λ (s : CasedScan). count_left s.scan.partial) (cased_at xs c.args.scan)) (sym c.deref.ensures.value) ∙ sym c.left_of.ensures ∙ c.in-Some.is ∙ ap (λ (n : ℕ). Some n) nothing) in
-    rw c.deref-2.ensures.value (subst IsDone (running-is c.self.inside.scans.items c.args.scan) (done-of_count (running_at (scans_in c.self.inside.scans.items) c.args.scan) done))
-
-pub publish_scan-published-requires-clause-digests : goal.publish_scan-published-requires-clause-digests
-publish_scan-published-requires-clause-digests g c =
-    let nothing : c.in-Some.left ≡ 0 = omega (arith, c.if-left-gt0.false) in
-    let done = count-alone c.self.inside.scans.items c.args.scan (Some 0) (ap (λ xs. option_map (λ (s : CasedScan). count_left s.scan.partial) (cased_at xs c.args.scan)) (sym c.deref.ensures.value) ∙ sym c.left_of.ensures ∙ c.in-Some.is ∙ ap (λ (n : ℕ). Some n) nothing) in
-    let given : AreDigests (running_at (scans_in c.self.inside.scans.items) c.args.scan) c.args.digests.now = rw (← c.self.view_is) at c.requires.digests in
-    let contents = digests-of_contents (running_at (scans_in c.self.inside.scans.items) c.args.scan) c.args.digests.now done given in
-    rw c.deref-2.ensures.value (subst (λ (o : Option RunningScan). AreContentsOf o c.args.digests.now) (running-is c.self.inside.scans.items c.args.scan) contents)
-
 pub invariant_of-self : goal.invariant_of-self
-invariant_of-self g c = record {
-  one_case = c.self.invariant.one_case ∙ sym c.publish_scan-published.ensures.case;
-  sixteen = c.close_after.ensures.sixteen ∙ c.self.invariant.sixteen;
-  walks = rw (c.publish_scan-published.ensures.case, c.close_after.ensures.scans) (under-after c.self.inside.vfs.case c.self.inside.scans.items c.args.scan c.publish_scan-published.result c.self.invariant.walks);
-}
+invariant_of-self g c =
+    step-keeps g.V.Versions.version g.V.Versions.count _ _ not_asked (CallPublish c.args.scan) _ c.requires.number (tells-as-before _ _ c.publish.ensures.content) (λ s st. tt) (λ w told s st. tt) (c.publish.ensures.step not_asked) c.self.invariant
 
 pub returns-clause-step : goal.returns-clause-step
-returns-clause-step g c =
-    let nothing : c.in-Some.left ≡ 0 = omega (arith, c.if-left-gt0.false) in
-    let done = count-alone c.self.inside.scans.items c.args.scan (Some 0) (ap (λ xs. option_map (λ (s : CasedScan). count_left s.scan.partial) (cased_at xs c.args.scan)) (sym c.deref.ensures.value) ∙ sym c.left_of.ensures ∙ c.in-Some.is ∙ ap (λ (n : ℕ). Some n) nothing) in
-    let published = rw (c.deref-2.ensures.value, ← (running-is c.self.inside.scans.items c.args.scan)) at c.publish_scan-published.ensures.published in
-    let closed = ap scans_in c.close_after.ensures.scans ∙ after-in c.self.inside.scans.items c.args.scan c.publish_scan-published.result in
+returns-clause-step g c = rw (← c.self.view_is) c.publish.ensures.step
+
+pub returns-clause-last : goal.returns-clause-last
+returns-clause-last g c = rw (← c.self.view_is) c.publish.ensures.last
+
+pub returns-clause-stale : goal.returns-clause-stale
+returns-clause-stale g c =
     rw (← c.self.view_is)
-    (λ a s st. publish-whole g.V.Versions.version g.V.Versions.count _ s c.args.scan _ _ _ _ c.publish_scan-published.result _
-    c.publish_scan-published.ensures.case c.publish_scan-published.ensures.versions closed c.close_after.ensures.reply done published st)
+    (λ s p h few legal keeps st. publish-stale not_asked s c.args.scan p h c.publish.result _ few legal keeps (c.publish.ensures.step not_asked _ st) (c.publish.ensures.last not_asked _ st))

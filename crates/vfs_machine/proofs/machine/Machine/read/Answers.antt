@@ -1,79 +1,10 @@
-use Rattle.std.proofs.Common.{◌∙◌, length, Some, None, subst}
-use Rattle.vfs_model.specs.declared.Case.{Case}
-use Rattle.vfs_model.specs.Sound.{IsLook}
-use Rattle.world_model.specs.Meaning.{look_seen}
-use Rattle.vfs_machine.specs.declared.slots.Next.TheVariants as to
-use Rattle.vfs_machine.specs.Cased.{running_of, cased_at}
-use Rattle.vfs_machine.specs.Scans.{IsNext}
-use Rattle.vfs_machine.proofs.CasedLemmas.{under-at, under-seen, seen-in, left-in}
-use Rattle.vfs_machine.proofs.ReadLemmas.{next-alone, location-open, location-look, read-closed, read-done, read-failed, read-saw, read-told}
+use Rattle.std.proofs.Common.{ap, is_some}
+use Rattle.vfs_model.specs.State.{CallRead}
+use Rattle.vfs_laws.proofs.KeepLemmas.{step-keeps}
+use Rattle.vfs_machine.specs.Steps.{read_answers}
 use Rattle.vfs_machine.proofs.machine.Machine.read.Goals as goal
 
-pub returns-in-Ok-Closed-clause-read : goal.returns-in-Ok-Closed-clause-read
-returns-in-Ok-Closed-clause-read g c =
-    let closed : IsNext (running_of (cased_at c.self.inside.scans.items c.args.scan)) to.Closed = rw (c.deref.ensures.value, c.in-Ok-Closed.field-0-is) at c.in-Ok-Closed.ensures in
-    rw (← c.self.view_is) (record { given = None; step = λ s st. read-closed g.V.Versions.version g.V.Versions.count _ None s c.args.scan (next-alone c.self.inside.scans.items c.args.scan to.Closed closed) st })
-
-pub returns-in-Ok-Closed-clause-told : goal.returns-in-Ok-Closed-clause-told
-returns-in-Ok-Closed-clause-told g c =
-    let closed : IsNext (running_of (cased_at c.self.inside.scans.items c.args.scan)) to.Closed = rw (c.deref.ensures.value, c.in-Ok-Closed.field-0-is) at c.in-Ok-Closed.ensures in
-    rw (← c.self.view_is) (λ fine w told s st. read-closed g.V.Versions.version g.V.Versions.count _ _ s c.args.scan (next-alone c.self.inside.scans.items c.args.scan to.Closed closed) st)
-
-pub returns-in-Ok-Done-clause-read : goal.returns-in-Ok-Done-clause-read
-returns-in-Ok-Done-clause-read g c =
-    let done : IsNext (running_of (cased_at c.self.inside.scans.items c.args.scan)) to.Done = rw (c.deref.ensures.value, c.in-Ok-Done.field-0-is) at c.in-Ok-Done.ensures in
-    rw (← c.self.view_is) (record { given = None; step = λ s st. read-done g.V.Versions.version g.V.Versions.count _ None s c.args.scan (next-alone c.self.inside.scans.items c.args.scan to.Done done) st })
-
-pub returns-in-Ok-Done-clause-told : goal.returns-in-Ok-Done-clause-told
-returns-in-Ok-Done-clause-told g c =
-    let done : IsNext (running_of (cased_at c.self.inside.scans.items c.args.scan)) to.Done = rw (c.deref.ensures.value, c.in-Ok-Done.field-0-is) at c.in-Ok-Done.ensures in
-    rw (← c.self.view_is) (λ fine w told s st. read-done g.V.Versions.version g.V.Versions.count _ _ s c.args.scan (next-alone c.self.inside.scans.items c.args.scan to.Done done) st)
-
-pub returns-in-Err-Failed-clause-read : goal.returns-in-Err-Failed-clause-read
-returns-in-Err-Failed-clause-read g c =
-    let path = c.in-Ok-Location.path in
-    let next : IsNext (running_of (cased_at c.self.inside.scans.items c.args.scan)) (to.Location path) = rw (c.deref.ensures.value, c.in-Ok-Location.field-0-is) at c.in-Ok-Location.ensures in
-    rw (← c.self.view_is) (record { given = None; step = λ s st. read-failed g.V.Versions.version g.V.Versions.count _ _ _ path s c.args.scan c.in-Err-Failed.ensures.content (next-alone c.self.inside.scans.items c.args.scan (to.Location path) next) st })
-
-pub see_in-requires-clause-look : goal.see_in-requires-clause-look
-see_in-requires-clause-look g c =
-    let path = c.in-Ok-Location.path in
-    let next : IsNext (running_of (cased_at c.self.inside.scans.items c.args.scan)) (to.Location path) = rw (c.deref.ensures.value, c.in-Ok-Location.field-0-is) at c.in-Ok-Location.ensures in
-    let shape : IsLook c.self.inside.vfs.case (length path) (look_seen c.in-Ok.entry) = subst (λ (k : Case). IsLook k (length path) (look_seen c.in-Ok.entry)) c.self.invariant.one_case c.in-Ok.ensures.shape in
-    location-look c.self.inside.vfs.case (cased_at c.self.inside.scans.items c.args.scan) path (look_seen c.in-Ok.entry) (under-at c.self.inside.vfs.case c.self.inside.scans.items c.args.scan c.self.invariant.walks) next shape
-
-pub invariant_of-self-2 : goal.invariant_of-self-2
-invariant_of-self-2 g c =
-    let next : IsNext (running_of (cased_at c.self.inside.scans.items c.args.scan)) (to.Location c.in-Ok-Location.path) = rw (c.deref.ensures.value, c.in-Ok-Location.field-0-is) at c.in-Ok-Location.ensures in
-    let open_it = location-open (cased_at c.self.inside.scans.items c.args.scan) c.in-Ok-Location.path next in
-    record {
-      one_case = c.in-Ok.ensures.case ∙ c.self.invariant.one_case;
-      sixteen = c.see_in.ensures.sixteen ∙ c.self.invariant.sixteen;
-      walks = under-seen c.self.inside.vfs.case c.self.inside.scans.items c.see_in.new.scans.items c.args.scan (look_seen c.in-Ok.entry) c.self.invariant.walks open_it c.in-Ok-see_in.ensures.seen;
-    }
-
-pub returns-clause-read : goal.returns-clause-read
-returns-clause-read g c =
-    let xs = c.self.inside.scans.items in
-    let l = look_seen c.in-Ok.entry in
-    let path = c.in-Ok-Location.path in
-    let next : IsNext (running_of (cased_at xs c.args.scan)) (to.Location path) = rw (c.deref.ensures.value, c.in-Ok-Location.field-0-is) at c.in-Ok-Location.ensures in
-    let alone = next-alone xs c.args.scan (to.Location path) next in
-    let seen = seen-in xs c.see_in.new.scans.items c.args.scan l c.in-Ok-see_in.ensures.seen in
-    let left = left-in xs c.args.scan c.in-Ok-see_in.left l c.in-Ok-see_in.ensures.left in
-    rw (← c.self.view_is) (record {
-      given = Some l;
-      step = λ s st. read-saw g.V.Versions.version g.V.Versions.count _ _ _ _ l path c.kind_of-kind.result c.in-Ok-see_in.left s c.args.scan c.in-Ok.ensures.content c.kind_of-kind.ensures alone seen left st;
-    })
-
-pub returns-clause-told : goal.returns-clause-told
-returns-clause-told g c =
-    let xs = c.self.inside.scans.items in
-    let l = look_seen c.in-Ok.entry in
-    let path = c.in-Ok-Location.path in
-    let next : IsNext (running_of (cased_at xs c.args.scan)) (to.Location path) = rw (c.deref.ensures.value, c.in-Ok-Location.field-0-is) at c.in-Ok-Location.ensures in
-    let alone = next-alone xs c.args.scan (to.Location path) next in
-    let seen = seen-in xs c.see_in.new.scans.items c.args.scan l c.in-Ok-see_in.ensures.seen in
-    let left = left-in xs c.args.scan c.in-Ok-see_in.left l c.in-Ok-see_in.ensures.left in
-    rw (← c.self.view_is) (λ fine w told s st.
-    read-told g.V.Versions.version g.V.Versions.count _ _ _ _ l w path c.kind_of-kind.result c.in-Ok-see_in.left s c.args.scan told (rw (← c.self.invariant.one_case) (c.in-Ok.ensures.seen w told)) c.in-Ok.ensures.content c.kind_of-kind.ensures alone seen left st)
+pub invariant_of-self : goal.invariant_of-self
+invariant_of-self g c =
+    let look = c.read.ensures.read in
+    step-keeps g.V.Versions.version g.V.Versions.count _ _ (read_answers look.given) (CallRead c.args.scan) _ c.requires (ap is_some c.read.ensures.content) look.looks look.due look.step c.self.invariant

@@ -1,0 +1,42 @@
+//! Tickets, and what comes of a publication.
+
+use case_order::{NoMemory, Share};
+use vfs_path::Path;
+
+/// A path, and its version when it was asked for.
+#[derive(Debug, Drop)]
+pub struct Ticket {
+    pub path: Path,
+    pub seen: u64,
+}
+
+impl Share for Ticket {
+    fn share(&self) -> Result<Ticket, NoMemory> {
+        Ok(Ticket {
+            path: self.path.share()?,
+            seen: self.seen,
+        })
+    }
+}
+
+/// What came of a publication.
+#[derive(Clone, Copy, Debug, PartialEq, Eq)]
+pub enum Published {
+    /// The snapshot is retained.
+    Stored,
+    /// A snapshot is retained strictly above the path already.
+    Covered,
+    /// A path related to the ticket's was invalidated since the ticket was made; the version now.
+    Stale(u64),
+    /// Want of memory; nothing changed.
+    NoMemory,
+}
+
+/// Why a publication comes to nothing.
+#[derive(Clone, Copy, Debug, PartialEq, Eq)]
+pub enum Refusal {
+    /// A path related to the ticket's was invalidated since the ticket was made; the version now.
+    Stale(u64),
+    /// A snapshot is retained strictly above the path already.
+    Covered,
+}

@@ -1,0 +1,4 @@
+use Rattle.vfs_machine.proofs.machine.Machine.find.Goals as goal
+
+pub returns : goal.returns
+returns g c = rw (← c.self.view_is) c.find.ensures

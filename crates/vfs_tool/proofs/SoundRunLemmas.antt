@@ -1,0 +1,179 @@
+-- Each state that the run of a script goes through is sound.
+use Rattle.std.proofs.Common.{◌≡◌, ℕ, zero, suc, ◌<◌, List, [], ◌∷◌, ◌++◌, map, Option, Some, None, refl, subst, arith}
+use Rattle.std.specs.List.{AllByRecursion as Each}
+use Rattle.vfs_model.specs.declared.Case.TheVariants.{Sensitive}
+use Rattle.vfs_model.specs.Paths.{Path}
+use Rattle.vfs_model.specs.Pending.{deliveries_due}
+use Rattle.vfs_model.specs.World.{World, IsWorld}
+use Rattle.vfs_model.specs.Edit.{Edit as TreeEdit, Refusal, refusal, events}
+use Rattle.vfs_model.specs.Scanning.{Scan as ScanInProgress}
+use Rattle.vfs_model.specs.State.{State, Call, CallEdit, CallEvent, CallDeliver, CallBegin, CallRead, CallPublish, CallFind, CallKind, CallVersion, answers, scan_of, told_step}
+use Rattle.vfs_model.specs.History.{IsCall, IsShort, opening, empty_world}
+use Rattle.vfs_model.specs.Sound.{IsSound}
+use Rattle.vfs_laws.proofs.DueLemmas.{told-due}
+use Rattle.vfs_laws.proofs.FewLemmas.{accepted-world}
+use Rattle.vfs_laws.proofs.HistoryLemmas.{step-sound, empty-is_world, opening-is_opening, opening-sound}
+use Rattle.vfs_laws.proofs.RetainedLemmas.{each-append}
+use Rattle.world_model.specs.Meaning.{edit_of}
+use Rattle.world_model.specs.declared.edit.Edit.{Edit as EditValue}
+use Rattle.world_model.specs.declared.edit.Edit.TheVariants as edit_value
+use Rattle.script_reader.specs.declared.script.Command.{Command}
+use Rattle.script_reader.specs.declared.script.Command.TheVariants.{Edit, Event, Deliver, Settle, Begin, Read, Publish, Scan, Find, KindOf, VersionOf}
+use Rattle.script_reader.specs.declared.script.Opening.{Opening}
+use Rattle.script_reader.specs.declared.script.Opening.TheVariants as opening_line
+use Rattle.script_reader.specs.declared.script.Line.{Line}
+use Rattle.script_reader.specs.declared.script.Script.{Script}
+use Rattle.script_reader.specs.declared.script.TextKind.TheVariants.{Replay}
+use Rattle.script_reader.specs.Grammar.{IsOpening, IsEdit, IsCommand, IsOpeningLine, IsCommandLine, AreLines, none, note, line, IsTextOf}
+use Rattle.vfs_tool.specs.Lines.{state_after}
+use Rattle.vfs_tool.specs.Scanned.{reads_due, after_reads}
+use Rattle.vfs_tool.specs.Report.{opening_edit, opening_refusal, world_unless, printed_opening, after_deliveries, published_after, scanned_or, printed_for, printed, opening_state}
+use Rattle.vfs_tool.specs.States.{states_to, states_once_begun, states_of_scan, states_for, states_of_lines, worlds_of, states_of}
+
+-- ---- the last state of a line
+
+-- the last of what a function gives up to n is what it gives at n
+states_to-ends : (give : ℕ → State) (n : ℕ) → (front : List State) × (states_to give n ≡ front ++ give n ∷ [])
+states_to-ends give zero = ([], refl)
+states_to-ends give (suc n) = (states_to give n, refl)
+
+-- the last of the states of a scan is that after it
+scan-ends : (s : State) (c : ℕ) (p : Path) (o : Option ScanInProgress) → scan_of s c ≡ o → (front : List State) × (states_of_scan s c p o ≡ front ++ (scanned_or s c p o).state ∷ [])
+scan-ends s c p (Some scan) e = rw e ([], refl)
+scan-ends s c p None e = (states_to (λ n. after_reads n (told_step s (CallBegin c p)).state c) (reads_due s p), refl)
+
+-- the last of the states of a line is that after it
+pub states_for-ends : (s : State) (c : ℕ) (command : Command) → (front : List State) × (states_for s c command ≡ front ++ (printed_for s c command).state ∷ [])
+states_for-ends s c (Edit edit) = ([], refl)
+states_for-ends s c (Event p) = ([], refl)
+states_for-ends s c Deliver = ([], refl)
+states_for-ends s c Settle = states_to-ends (λ n. after_deliveries n s) (deliveries_due s.pending)
+states_for-ends s c (Begin p) = ([], refl)
+states_for-ends s c Read = ([], refl)
+states_for-ends s c Publish = ([], refl)
+states_for-ends s c (Scan p) = scan-ends s c p (scan_of s c) refl
+states_for-ends s c (Find p) = ([], refl)
+states_for-ends s c (KindOf p) = ([], refl)
+states_for-ends s c (VersionOf p) = ([], refl)
+
+-- what holds of each of a list holds of its last one
+each-last : (P : State → Type 0) (front : List State) (s : State) → Each P (front ++ s ∷ []) → P s
+each-last P [] s h = h.0
+each-last P (x ∷ front) s h = each-last P front s h.1
+
+-- ---- calls
+
+-- a call that may be made keeps a state sound
+told-sound : (s : State) (call : Call) → IsCall call → IsSound s → IsSound (told_step s call).state
+told-sound s call may sound = step-sound (answers s call) s call may (told-due s call) sound
+
+-- the state after one call is sound
+call-sound : (s : State) (call : Call) → IsCall call → IsSound s → Each IsSound ((told_step s call).state ∷ [])
+call-sound s call may sound = (told-sound s call may sound, tt)
+
+-- what a function gives up to n is sound, where all that it gives is
+states_to-sound : (give : ℕ → State) (n : ℕ) → ((k : ℕ) → IsSound (give k)) → Each IsSound (states_to give n)
+states_to-sound give zero sound = (sound 0, tt)
+states_to-sound give (suc n) sound = each-append IsSound (states_to give n) (give (suc n) ∷ []) (states_to-sound give n sound) (sound (suc n), tt)
+
+-- the state after so many deliveries is sound
+after_deliveries-sound : (n : ℕ) (s : State) → IsSound s → IsSound (after_deliveries n s)
+after_deliveries-sound zero s sound = sound
+after_deliveries-sound (suc n) s sound = told-sound (after_deliveries n s) CallDeliver tt (after_deliveries-sound n s sound)
+
+-- the state after so many reads is sound
+after_reads-sound : (n : ℕ) (s : State) (c : ℕ) → c < 16 → IsSound s → IsSound (after_reads n s c)
+after_reads-sound zero s c within sound = sound
+after_reads-sound (suc n) s c within sound = told-sound (after_reads n s c) (CallRead c) within (after_reads-sound n s c within sound)
+
+-- the states of a scan that has begun are sound
+once_begun-sound : (s : State) (c reads : ℕ) → c < 16 → IsSound s → Each IsSound (states_once_begun s c reads)
+once_begun-sound s c reads within sound =
+    each-append IsSound (states_to (λ n. after_reads n s c) reads) ((published_after reads (after_reads reads s c) c).state ∷ [])
+    (states_to-sound (λ n. after_reads n s c) reads (λ k. after_reads-sound k s c within sound))
+    (call-sound (after_reads reads s c) (CallPublish c) within (after_reads-sound reads s c within sound))
+
+-- the states of a scan are sound
+scan-sound : (s : State) (c : ℕ) (p : Path) (o : Option ScanInProgress) → c < 16 → IsShort p → IsSound s → Each IsSound (states_of_scan s c p o)
+scan-sound s c p (Some scan) within short sound = (sound, tt)
+scan-sound s c p None within short sound = once_begun-sound (told_step s (CallBegin c p)).state c (reads_due s p) within (told-sound s (CallBegin c p) (within, short) sound)
+
+-- ---- command lines
+
+-- the edit of a line that has a text is one that may be asked for
+edit-is_call : (edit : EditValue) (words : List (List ℕ)) → IsEdit edit words → IsCall (CallEdit (edit_of edit))
+edit-is_call (edit_value.Write p bytes) words form = (form.0.short, tt)
+edit-is_call (edit_value.Mkdir p) words form = (form.0.short, tt)
+edit-is_call (edit_value.Remove p) words form = (form.0.short, tt)
+edit-is_call (edit_value.Move p q) words form = (form.0.short, (form.1.short, tt))
+
+-- the states of a line that has a text are sound
+states_for-sound : (s : State) (c : ℕ) (command : Command) (words : List (List ℕ)) → c < 16 → IsCommand command words → IsSound s → Each IsSound (states_for s c command)
+states_for-sound s c (Edit edit) words within form sound = call-sound s (CallEdit (edit_of edit)) (edit-is_call edit words form) sound
+states_for-sound s c (Event p) words within form sound = call-sound s (CallEvent p) form.0.short sound
+states_for-sound s c Deliver words within form sound = call-sound s CallDeliver tt sound
+states_for-sound s c Settle words within form sound = states_to-sound (λ n. after_deliveries n s) (deliveries_due s.pending) (λ k. after_deliveries-sound k s sound)
+states_for-sound s c (Begin p) words within form sound = call-sound s (CallBegin c p) (within, form.0.short) sound
+states_for-sound s c Read words within form sound = call-sound s (CallRead c) within sound
+states_for-sound s c Publish words within form sound = call-sound s (CallPublish c) within sound
+states_for-sound s c (Scan p) words within form sound = scan-sound s c p (scan_of s c) within form.0.short sound
+states_for-sound s c (Find p) words within form sound = call-sound s (CallFind p) form.0.short sound
+states_for-sound s c (KindOf p) words within form sound = call-sound s (CallKind p) form.0.short sound
+states_for-sound s c (VersionOf p) words within form sound = call-sound s (CallVersion p) form.0.short sound
+
+-- the state after a line whose states are sound is sound
+after_line-sound : (s : State) (c : ℕ) (command : Command) → Each IsSound (states_for s c command) → IsSound (printed_for s c command).state
+after_line-sound s c command sound =
+    let ends = states_for-ends s c command in
+    each-last IsSound ends.0 (printed_for s c command).state (subst (λ (states : List State). Each IsSound states) ends.1 sound)
+
+-- the states of command lines that have texts are sound
+lines-sound : (texts : List (List ℕ)) (lines : List Line) (s : State) → AreLines (IsCommandLine Replay) texts lines → IsSound s → Each IsSound (states_of_lines s lines)
+lines-sound [] [] s none sound = tt
+lines-sound [] (l ∷ lines) s impossible sound = elim impossible [ ]
+lines-sound (text ∷ texts) lines s (note _ _ _ is more) sound = lines-sound texts lines s more sound
+lines-sound (text ∷ texts) (l ∷ lines) s (line _ _ _ _ is more) sound =
+    let c = is.caller in
+    let here = states_for-sound s l.caller l.command is.words (omega (arith, c)) is.form sound in
+    each-append IsSound (states_for s l.caller l.command) (states_of_lines (printed s l).state lines) here
+    (lines-sound texts lines (printed s l).state more (after_line-sound s l.caller l.command here))
+
+-- ---- opening lines
+
+-- the opening over a world is sound
+over-sound : (world : World) → IsWorld Sensitive world → IsSound (opening Sensitive 1024 world)
+over-sound world h = opening-sound (opening Sensitive 1024 world) (opening-is_opening Sensitive 1024 world (omega arith) (omega arith) h)
+
+-- the path of an opening line that has a text is short
+opening-is_short : (o : Opening) (words : List (List ℕ)) → IsOpening o words → Each IsShort (events (opening_edit o))
+opening-is_short (opening_line.Dir p) words form = (form.0.short, tt)
+opening-is_short (opening_line.File p bytes) words form = (form.0.short, tt)
+
+-- an edit that is done or refused leaves a world
+world_unless-is_world : (world : World) (edit : TreeEdit) (r : Option Refusal) → refusal Sensitive world edit ≡ r → Each IsShort (events edit) → IsWorld Sensitive world → IsWorld Sensitive (world_unless world edit r)
+world_unless-is_world world edit None e short h = accepted-world Sensitive world edit e short h
+world_unless-is_world world edit (Some r) e short h = h
+
+-- an opening line that has a text leaves a world
+opened-is_world : (world : World) (o : Opening) (words : List (List ℕ)) → IsOpening o words → IsWorld Sensitive world → IsWorld Sensitive (printed_opening world o).state
+opened-is_world world o words form h = world_unless-is_world world (opening_edit o) (opening_refusal world o) refl (opening-is_short o words form) h
+
+-- the openings over the worlds of opening lines that have texts are sound, and these leave a world
+openings-sound : (texts : List (List ℕ)) (openings : List Opening) (world : World) → AreLines IsOpeningLine texts openings → IsWorld Sensitive world
+    → Each IsSound (map (opening Sensitive 1024) (worlds_of world openings)) × IsWorld Sensitive (state_after printed_opening world openings)
+openings-sound [] [] world none h = ((over-sound world h, tt), h)
+openings-sound [] (o ∷ openings) world impossible h = elim impossible [ ]
+openings-sound (text ∷ texts) openings world (note _ _ _ is more) h = openings-sound texts openings world more h
+openings-sound (text ∷ texts) (o ∷ openings) world (line _ _ _ _ is more) h =
+    let rest = openings-sound texts openings (printed_opening world o).state more (opened-is_world world o is.words is.form h) in
+    ((over-sound world h, rest.0), rest.1)
+
+-- ---- scripts
+
+-- each state that the run of a script goes through is sound
+pub states_of-sound : (text : List ℕ) (script : Script) → IsTextOf Replay text script → Each IsSound (states_of script)
+states_of-sound text script is =
+    let all = is.script in
+    let opened = openings-sound all.first script.opening empty_world all.opening (empty-is_world Sensitive) in
+    each-append IsSound (map (opening Sensitive 1024) (worlds_of empty_world script.opening)) (states_of_lines (opening_state script) script.lines) opened.0
+    (lines-sound all.second script.lines (opening_state script) all.commands (over-sound (state_after printed_opening empty_world script.opening) opened.1))

@@ -1,0 +1,50 @@
+-- The states that a run goes through.
+use Rattle.std.specs.Prelude.{ℕ, zero, suc, List, [], ◌∷◌, ◌++◌, map, Option, Some, None}
+use Rattle.vfs_model.specs.declared.Case.TheVariants.{Sensitive}
+use Rattle.vfs_model.specs.Pending.{deliveries_due}
+use Rattle.vfs_model.specs.Paths.{Path}
+use Rattle.vfs_model.specs.World.{World}
+use Rattle.vfs_model.specs.Scanning.{Scan as ScanInProgress}
+use Rattle.vfs_model.specs.State.{State, CallBegin, scan_of, told_step}
+use Rattle.vfs_model.specs.History.{opening, empty_world}
+use Rattle.script_reader.specs.declared.script.Command.{Command}
+use Rattle.script_reader.specs.declared.script.Command.TheVariants.{Settle, Scan}
+use Rattle.script_reader.specs.declared.script.Opening.{Opening}
+use Rattle.script_reader.specs.declared.script.Line.{Line}
+use Rattle.script_reader.specs.declared.script.Script.{Script}
+use Rattle.vfs_tool.specs.Scanned.{reads_due, after_reads}
+use Rattle.vfs_tool.specs.Report.{after_deliveries, published_after, printed_for, printed, printed_opening, opening_state}
+
+-- what the function gives at 0, at 1 and so on, up to n
+abbrev pub states_to : (ℕ → State) → ℕ → List State
+states_to give zero = give 0 ∷ []
+states_to give (suc n) = states_to give n ++ give (suc n) ∷ []
+
+-- the states of a whole scan from this one, in which it has begun: this one, the state after each read that is due, and the state after its publication
+abbrev pub states_once_begun : State → ℕ → ℕ → List State
+states_once_begun s caller reads = states_to (λ n. after_reads n s caller) reads ++ (published_after reads (after_reads reads s caller) caller).state ∷ []
+
+-- the states of a whole scan of the path: after its begin, after each read that is due, and after its publication; where the caller's scan is in progress, the state as it was
+abbrev pub states_of_scan : State → ℕ → Path → Option ScanInProgress → List State
+states_of_scan s caller path (Some scan) = s ∷ []
+states_of_scan s caller path None = states_once_begun (told_step s (CallBegin caller path)).state caller (reads_due s path)
+
+-- the states that a command goes through, the last one being that after it: of settle the state before it and after each delivery that is due, of scan as above, and else the state after its one call
+abbrev pub states_for : State → ℕ → Command → List State
+states_for s caller Settle = states_to (λ n. after_deliveries n s) (deliveries_due s.pending)
+states_for s caller (Scan path) = states_of_scan s caller path (scan_of s caller)
+states_for s caller command = (printed_for s caller command).state ∷ []
+
+-- the states that command lines go through, one line after the other
+abbrev pub states_of_lines : State → List Line → List State
+states_of_lines s [] = []
+states_of_lines s (line ∷ more) = states_for s line.caller line.command ++ states_of_lines (printed s line).state more
+
+-- the worlds that opening lines go through, from this one on
+abbrev pub worlds_of : World → List Opening → List World
+worlds_of world [] = world ∷ []
+worlds_of world (line ∷ more) = world ∷ worlds_of (printed_opening world line).state more
+
+-- the states that a run of the script goes through: the opening ones over the worlds of its opening lines, and those of its command lines
+abbrev pub states_of : Script → List State
+states_of script = map (opening Sensitive 1024) (worlds_of empty_world script.opening) ++ states_of_lines (opening_state script) script.lines
