@@ -19,8 +19,9 @@ fn path(alloc: Global, text: &str) -> Result<Path, Fail> {
     Ok(Path::parse(alloc, text.as_bytes())?)
 }
 
-fn write(alloc: Global, at: &str) -> Result<Edit, Fail> {
-    let items = Vec::from_slice(alloc, b"abc")?;
+/// The edit that writes the text at the path.
+fn write(alloc: Global, at: &str, text: &str) -> Result<Edit, Fail> {
+    let items = Vec::from_slice(alloc, text.as_bytes())?;
     match Bytes::from_vec(alloc, items) {
         Ok(bytes) => Ok(Edit::Write(path(alloc, at)?, bytes)),
         Err((_, refused)) => Err(Fail::from(refused)),
@@ -49,7 +50,7 @@ fn machine(
     }
 }
 
-/// A directory `/d` with the files `a` and `b`, whose events wait.
+/// A directory `/d` with the files `a` and `b`, which hold their names, and whose events wait.
 fn make_directory<T: Tree, R: Retain, V: Versions>(
     rt: &impl Abort,
     alloc: Global,
@@ -59,8 +60,8 @@ fn make_directory<T: Tree, R: Retain, V: Versions>(
 {
     let directory = Edit::Mkdir(path(alloc, "/d")?);
     assert_eq!(rt; machine.edit(&directory), Edited::Done);
-    assert_eq!(rt; machine.edit(&write(alloc, "/d/a")?), Edited::Done);
-    assert_eq!(rt; machine.edit(&write(alloc, "/d/b")?), Edited::Done);
+    assert_eq!(rt; machine.edit(&write(alloc, "/d/a", "a")?), Edited::Done);
+    assert_eq!(rt; machine.edit(&write(alloc, "/d/b", "b")?), Edited::Done);
     Ok(())
 }
 
@@ -201,7 +202,7 @@ fn assert_written<T: Tree, R: Retain, V: Versions + Drop>(
     requires { V.count machine.old.versions < 2 ^ 62 }
 {
     assert!(rt; machine.settled());
-    assert_eq!(rt; machine.edit(&write(alloc, "/f")?), Edited::Done);
+    assert_eq!(rt; machine.edit(&write(alloc, "/f", "abc")?), Edited::Done);
     assert!(rt; !machine.settled());
     assert!(rt; matches!(machine.deliver(), Delivered::Event(_)));
     assert!(rt; machine.settled());
@@ -272,10 +273,10 @@ fn events_past_the_queue_are_lost(rt: HostRuntime) -> Result<(), Fail> {
     let alloc = rt.alloc();
     let mut machine = machine(alloc, 2)?;
     let to = Edit::Move(path(alloc, "/f")?, path(alloc, "/g")?);
-    assert_eq!(rt; machine.edit(&write(alloc, "/f")?), Edited::Done);
+    assert_eq!(rt; machine.edit(&write(alloc, "/f", "abc")?), Edited::Done);
     assert_eq!(rt; machine.edit(&to), Edited::Overflow);
     assert_eq!(rt;
-        machine.edit(&write(alloc, "/")?),
+        machine.edit(&write(alloc, "/", "abc")?),
         Edited::Refused(EditError::Root)
     );
     machine.lose();
@@ -322,7 +323,7 @@ fn directory_is_retained(rt: HostRuntime) -> Result<(), Fail> {
     ];
     let first = published(&rt, alloc, &mut machine, "/d", 0, &reads[1..])?;
     assert_eq!(rt; first, Answer::Stored);
-    let file = Some(file_digest(b"abc"));
+    let file = Some(file_digest(b"a"));
     let wants = [("/d/a", Some(file)), ("/D/c", Some(None)), ("/x", None)];
     assert_parts(&rt, alloc, &machine, &wants)?;
     let whole = published(&rt, alloc, &mut machine, "/", 0, &reads)?;
@@ -333,7 +334,7 @@ fn directory_is_retained(rt: HostRuntime) -> Result<(), Fail> {
         ("/e", Some(Kind::Missing)),
     ];
     assert_kinds(&rt, alloc, &machine, &wants)?;
-    assert_left(&rt, machine, &path(alloc, "/D/B")?, file);
+    assert_left(&rt, machine, &path(alloc, "/D/A")?, file);
     Ok(())
 }
 
