@@ -68,8 +68,10 @@ fn publish<R: Retain, V: Versions>(
     Ok(vfs.publish(ticket, snapshot))
 }
 
-/// Publishes at `/a/b`, after the path was invalidated.
+/// Publishes at `/a/b`, after the path was invalidated, and asserts that the refusal was told
+/// beforehand.
 fn publish_after<R: Retain, V: Versions + Drop>(
+    rt: &impl Abort,
     alloc: Global,
     vfs: &mut Vfs<R, V>,
     at: &str,
@@ -79,13 +81,15 @@ fn publish_after<R: Retain, V: Versions + Drop>(
     let ticket = vfs.begin(path(alloc, "/a/b")?);
     let later = ticket.share()?;
     vfs.invalidate(&path(alloc, at)?)?;
-    let refusal = vfs.refusal(&later);
+    let told = vfs.refusal(&later);
     let published = vfs.publish(ticket, file("x"));
-    match (refusal, published) {
-        (Some(Refusal::Stale(n)), Published::Stale(m)) if n == m => Ok(published),
-        (None, Published::Stored) => Ok(published),
-        _ => Ok(Published::NoMemory),
-    }
+    let refused = match published {
+        Published::Stale(version) => Some(Refusal::Stale(version)),
+        Published::Covered => Some(Refusal::Covered),
+        Published::Stored | Published::NoMemory => None,
+    };
+    assert_eq!(rt; told, refused, "at {at}");
+    Ok(published)
 }
 
 /// The digest of what is found at the path.
@@ -120,7 +124,7 @@ fn ticket_is_stale_where_a_related_path_was_invalidated(rt: HostRuntime) -> Resu
         ("/b", Published::Stored),
     ] {
         let mut vfs = empty(alloc);
-        assert_eq!(rt; publish_after(alloc, &mut vfs, at)?, want, "at {at}");
+        assert_eq!(rt; publish_after(&rt, alloc, &mut vfs, at)?, want, "at {at}");
     }
     Ok(())
 }
