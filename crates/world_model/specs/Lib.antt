@@ -8,3 +8,4 @@ pub mod Nodes
 pub mod Found
 pub mod Falls
 pub mod Refused
+pub mod Defaults

@@ -9,12 +9,14 @@ mod mem_tree;
 mod names;
 mod node;
 mod refuse;
+mod settings;
 mod tree;
 
 pub use edit::{ApplyError, Edit, EditError, Events};
 pub use entry::{Entry, LookError};
 pub use intake::{Fit, Front, Intake};
 pub use mem_tree::MemTree;
+pub use settings::Settings;
 pub use tree::Tree;
 
 #[cfg(test)]
