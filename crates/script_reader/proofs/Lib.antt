@@ -2,7 +2,10 @@ pub mod Units
 pub mod Loops
 pub mod Walk
 pub mod NumberLemmas
+pub mod Written
+pub mod WrittenLines
 pub mod Tables
+pub mod SetLemmas
 pub mod LineLaws
 pub mod TextLaws
 pub mod TrueCauses

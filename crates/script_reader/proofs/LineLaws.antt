@@ -1,6 +1,7 @@
 -- What a line adds to a script, and what a line of a script is read as.
 use Rattle.std.proofs.Common.{◌≡◌, ℕ, ◌^◌, ◌<◌, ◌≤◌, Bool, true, false, cond, eqb, leb, List, [], ◌∷◌, length, Option, Some, None, Ok, Err, refl, ap, subst, ◌∙◌, arith, inl, inr, Decides}
 use Rattle.std.specs.Prelude.{codes}
+use Rattle.std.specs.List.{list_any}
 use Rattle.std.specs.Str.{bytes_eq, all_ascii_digits}
 use Rattle.std.specs.Fmt.{decimal}
 use Rattle.std.proofs.lemmas.Bool.{leb-true, le-leb, false≢true}
@@ -11,31 +12,33 @@ use Rattle.world_model.specs.declared.edit.Edit.TheVariants.{Write, Mkdir, Remov
 use Rattle.script_reader.specs.declared.cause.Cause.TheVariants as causes
 use Rattle.script_reader.specs.declared.script.TextKind.{TextKind}
 use Rattle.script_reader.specs.declared.script.Opening.{Opening}
-use Rattle.script_reader.specs.declared.script.Opening.TheVariants.{Dir, File}
+use Rattle.script_reader.specs.declared.script.Opening.TheVariants.{Case, Queue, Places, Workers, Dir, File}
 use Rattle.script_reader.specs.declared.script.Command.{Command}
-use Rattle.script_reader.specs.declared.script.Command.TheVariants.{Edit, Event, Deliver, Settle, Begin, Read, Publish, Scan, Find, KindOf, VersionOf}
+use Rattle.script_reader.specs.declared.script.Command.TheVariants.{Edit, Event, Lose, Deliver, Settle, Begin, Read, Publish, Abandon, Scan, Find, KindOf, VersionOf}
 use Rattle.script_reader.specs.declared.script.Line.{Line}
 use Rattle.script_reader.specs.declared.script.Script.{Script}
 use Rattle.script_reader.specs.Gives.{◌>>=◌}
 use Rattle.script_reader.specs.Numbers.{number_of}
 use Rattle.script_reader.specs.Words.{is_note, words_of}
+use Rattle.script_reader.specs.Set.{is_same_setting}
 use Rattle.script_reader.specs.Forms.{opening_of, command_of}
 use Rattle.script_reader.specs.Reading.{is_in, with_opening, with_line, caller_from, with_setting, with_command, with_words, after_line}
-use Rattle.script_reader.specs.Grammar.{IsPathForm, IsFileForm, IsOpening, IsCommand, HasWords, IsOpeningLine, IsCommandLine}
+use Rattle.script_reader.specs.Grammar.{IsPathForm, IsFileForm, IsNumberForm, IsOpening, IsCommand, HasWords, IsOpeningLine, IsCommandLine}
 use Rattle.script_reader.proofs.NumberLemmas.{decimal_of_number, number_of_decimal, digits_of_decimal}
-use Rattle.script_reader.proofs.Tables.{bind_ok, ok_is, passed_ok, opening_is, opening_again, command_is, command_again}
+use Rattle.script_reader.proofs.Tables.{bind_ok, ok_is, guard_ok, passed_ok, opening_is, opening_again, command_is, command_again}
 
 -- what a line adds
 pub data LineAdds (kind : TextKind) (s : Script) (text : List ℕ) : Script → Type 0 where
   nothing : is_note text ≡ true → LineAdds kind s text s
-  setting : (o : Opening) → IsOpeningLine text o → s.lines ≡ [] → LineAdds kind s text (with_opening s o)
+  setting : (o : Opening) → IsOpeningLine text o → s.lines ≡ [] → list_any (is_same_setting o) s.opening ≡ false → LineAdds kind s text (with_opening s o)
   command : (l : Line) → IsCommandLine kind text l → LineAdds kind s text (with_line s l)
 
 setting_adds : (kind : TextKind) (s : Script) (text : List ℕ) (more : List (List ℕ)) (now : Script) → HasWords text (codes "set" ∷ more) → s.lines ≡ [] → with_setting s more ≡ Ok now → LineAdds kind s text now
 setting_adds kind s text [] now w first e = absurd cc
 setting_adds kind s text (word ∷ args) now w first e =
-    let b = bind_ok (opening_of word args) (λ o. Ok (with_opening s o)) now e in
-    subst (λ (x : Script). LineAdds kind s text x) (ok_is (with_opening s b.0) now b.2) (setting b.0 (record { words = word ∷ args; spelled = w; form = opening_is word args b.0 b.1 }) first)
+    let b = bind_ok (opening_of word args) (λ o. cond (list_any (is_same_setting o) s.opening) (Err causes.Repeated) (Ok (with_opening s o))) now e in
+    let g = guard_ok (list_any (is_same_setting b.0) s.opening) causes.Repeated (Ok (with_opening s b.0)) now b.2 in
+    subst (λ (x : Script). LineAdds kind s text x) (ok_is (with_opening s b.0) now g.1) (setting b.0 (record { words = word ∷ args; spelled = w; form = opening_is word args b.0 b.1 }) first g.0)
 
 -- the number of a caller
 pub caller_is : (o : Option ℕ) (n : ℕ) → caller_from o ≡ Ok n → (o ≡ Some n) × (n ≤ 15)
@@ -103,16 +106,23 @@ no_path_form name path h = absurd (let e = h.1 in cc)
 no_file_form : (name : List ℕ) (path : Path) (bytes : List ℕ) → IsFileForm name path bytes [] → ⊥
 no_file_form name path bytes h = elim h.2 [ inl e ↦ absurd cc | inr e ↦ absurd (let f = e.1 in cc) ]
 
+no_number_form : (name : List ℕ) (limit n : ℕ) → IsNumberForm name limit n [] → ⊥
+no_number_form name limit n h = absurd (let e = h.2 in cc)
+
 no_setting : (o : Opening) → IsOpening o [] → ⊥
+no_setting (Case case) h = absurd (let e = h.2 in cc)
+no_setting (Queue n) h = no_number_form _ _ n h
+no_setting (Places n) h = no_number_form _ _ n h
+no_setting (Workers n) h = no_number_form _ _ n h
 no_setting (Dir path) h = no_path_form _ path h
 no_setting (File path bytes) h = no_file_form _ path bytes h
 
-setting_read_by : (s : Script) (o : Opening) (words : List (List ℕ)) → IsOpening o words → with_setting s words ≡ Ok (with_opening s o)
-setting_read_by s o [] h = absurd (no_setting o h)
-setting_read_by s o (word ∷ args) h = rw (opening_again o word args h) refl
+setting_read_by : (s : Script) (o : Opening) (words : List (List ℕ)) → IsOpening o words → list_any (is_same_setting o) s.opening ≡ false → with_setting s words ≡ Ok (with_opening s o)
+setting_read_by s o [] h new = absurd (no_setting o h)
+setting_read_by s o (word ∷ args) h new = rw (opening_again o word args h, new) refl
 
-pub setting_read : (kind : TextKind) (s : Script) (text : List ℕ) (o : Opening) → IsOpeningLine text o → s.lines ≡ [] → after_line kind s text ≡ Ok (with_opening s o)
-setting_read kind s text o h none = by_words kind s text (codes "set" ∷ h.words) h.spelled ∙ set_is_set kind s h.words none ∙ setting_read_by s o h.words h.form
+pub setting_read : (kind : TextKind) (s : Script) (text : List ℕ) (o : Opening) → IsOpeningLine text o → s.lines ≡ [] → list_any (is_same_setting o) s.opening ≡ false → after_line kind s text ≡ Ok (with_opening s o)
+setting_read kind s text o h none new = by_words kind s text (codes "set" ∷ h.words) h.spelled ∙ set_is_set kind s h.words none ∙ setting_read_by s o h.words h.form new
 
 not_set_by : (n : ℕ) (b : Bool) → n < 2 ^ 32 → Decides b (decimal n ≡ codes "set") → b ≡ false
 not_set_by n true lt d = absurd (false≢true (let e : all_ascii_digits (codes "set") ≡ true = subst (λ (w : List ℕ). all_ascii_digits w ≡ true) (d.0 refl) (digits_of_decimal n lt) in e))
@@ -129,11 +139,13 @@ no_word (Edit (Mkdir path)) h = no_path_form _ path h
 no_word (Edit (Remove path)) h = no_path_form _ path h
 no_word (Edit (Move from to)) h = absurd (let e = h.2 in cc)
 no_word (Event path) h = no_path_form _ path h
+no_word Lose h = absurd cc
 no_word Deliver h = absurd cc
 no_word Settle h = absurd cc
 no_word (Begin path) h = no_path_form _ path h
 no_word Read h = absurd cc
 no_word Publish h = absurd cc
+no_word Abandon h = absurd cc
 no_word (Scan path) h = no_path_form _ path h
 no_word (Find path) h = no_path_form _ path h
 no_word (KindOf path) h = no_path_form _ path h

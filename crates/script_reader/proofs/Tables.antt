@@ -1,10 +1,13 @@
 -- The forms of lines: what is read is of its form, and what is of a form is read.
-use Rattle.std.proofs.Common.{◌≡◌, ℕ, ◌≤◌, Bool, true, false, cond, ltb, List, [], ◌∷◌, length, Result, Ok, Err, refl, sym, ap, subst, inl, inr, ◌⊎◌, lit≤, Decides}
+use Rattle.std.proofs.Common.{◌≡◌, ℕ, ◌≤◌, Bool, true, false, cond, ltb, leb, ◌&&◌, List, [], ◌∷◌, length, Option, Some, None, Result, Ok, Err, refl, sym, ap, subst, arith, inl, inr, ◌⊎◌, lit≤, Decides}
 use Rattle.std.specs.Prelude.{codes}
 use Rattle.std.specs.Str.{bytes_eq}
 use Rattle.std.specs.List.{AllByRecursion}
-use Rattle.std.proofs.lemmas.Bool.{ltb-false, le-ltb}
+use Rattle.std.specs.Fmt.{decimal}
+use Rattle.std.proofs.lemmas.Bool.{ltb-false, le-ltb, leb-true, le-leb}
 use Rattle.std.proofs.lemmas.Slice.Eq.{bytes_eq-Decides}
+use Rattle.vfs_model.specs.declared.Case.{Case as NameCase}
+use Rattle.vfs_model.specs.declared.Case.TheVariants.{Sensitive}
 use Rattle.vfs_model.specs.Paths.{Path}
 use Rattle.vfs_path.specs.declared.error.PathError.{PathError}
 use Rattle.vfs_path.specs.Texts.{IsPath, path_of, path_text}
@@ -12,12 +15,14 @@ use Rattle.world_model.specs.declared.edit.Edit.TheVariants.{Write, Mkdir, Remov
 use Rattle.script_reader.specs.declared.cause.Cause.{Cause}
 use Rattle.script_reader.specs.declared.cause.Cause.TheVariants as causes
 use Rattle.script_reader.specs.declared.script.Opening.{Opening}
-use Rattle.script_reader.specs.declared.script.Opening.TheVariants.{Dir, File}
+use Rattle.script_reader.specs.declared.script.Opening.TheVariants.{Case, Queue, Places, Workers, Dir, File}
 use Rattle.script_reader.specs.declared.script.Command.{Command}
-use Rattle.script_reader.specs.declared.script.Command.TheVariants.{Edit, Event, Deliver, Settle, Begin, Read, Publish, Scan, Find, KindOf, VersionOf}
+use Rattle.script_reader.specs.declared.script.Command.TheVariants.{Edit, Event, Lose, Deliver, Settle, Begin, Read, Publish, Abandon, Scan, Find, KindOf, VersionOf}
 use Rattle.script_reader.specs.Gives.{◌>>=◌}
-use Rattle.script_reader.specs.Forms.{Form, or_bad_path, path_from, content_from, file_from, no_more, one_path, two_paths, one_file, alone, with_path, with_two_paths, with_file, form_named, unknown, opening_forms, plain_forms, edit_forms, path_forms, opening_of, plain_command_of, path_command_of, command_of}
-use Rattle.script_reader.specs.Grammar.{IsFileForm, IsPathForm, IsTwoPathForm, IsOpening, IsCommand}
+use Rattle.script_reader.specs.Numbers.{number_of}
+use Rattle.script_reader.specs.Forms.{Form, or_bad_path, path_from, content_from, file_from, within, case_from, no_more, one_path, two_paths, one_file, one_number, one_case, alone, with_path, with_two_paths, with_file, with_number, with_case, form_named, unknown, opening_forms, plain_forms, edit_forms, path_forms, opening_of, plain_command_of, path_command_of, command_of}
+use Rattle.script_reader.specs.Grammar.{IsFileForm, IsPathForm, IsTwoPathForm, IsNumberForm, IsCaseWord, IsCaseForm, IsOpening, IsCommand}
+use Rattle.script_reader.proofs.NumberLemmas.{both, decimal_of_number, number_of_decimal}
 use Rattle.vfs_path.proofs.TextLaws.{path_text-from_text, IsPath-from_text, path_of-path_text}
 
 -- ---- steps that did not fail
@@ -132,6 +137,51 @@ one_file_again path bytes args h =
       | inr e ↦ rw (e.1, e.0) (file_from_again path [] h.0 (lit≤ tt))
     ]
 
+-- the number that an option holds, from 1 to the limit
+within_is : (limit n : ℕ) (o : Option ℕ) → within limit o ≡ Ok n → (o ≡ Some n) × (1 ≤ n) × (n ≤ limit)
+within_is limit n None e = absurd cc
+within_is limit n (Some m) e =
+    let g = passed_ok (leb 1 m && leb m limit) causes.BadNumber (Ok m) n e in
+    let same = ok_is m n g.1 in
+    let b = both (leb 1 m) (leb m limit) g.0 in
+    (ap (λ (k : ℕ). Some k) same, subst (λ (k : ℕ). 1 ≤ k) same (leb-true 1 m b.0), subst (λ (k : ℕ). k ≤ limit) same (leb-true m limit b.1))
+
+-- the words after the name of a form with a number
+abbrev NumberWords : ℕ → ℕ → List (List ℕ) → Type 0
+NumberWords limit n args = (1 ≤ n) × (n ≤ limit) × (args ≡ decimal n ∷ [])
+
+one_number_is : (limit : ℕ) (args : List (List ℕ)) (n : ℕ) → one_number limit args ≡ Ok n → NumberWords limit n args
+one_number_is limit [] n e = absurd cc
+one_number_is limit (word ∷ []) n e =
+    let w = within_is limit n (number_of word) e in
+    (w.1, w.2, ap (λ (v : List ℕ). v ∷ []) (decimal_of_number word n w.0).0)
+one_number_is limit (word ∷ v ∷ more) n e = absurd cc
+
+one_number_again : (limit n : ℕ) (args : List (List ℕ)) → limit ≤ 65536 → NumberWords limit n args → one_number limit args ≡ Ok n
+one_number_again limit n args few h = let le = h.1 in rw (h.2, number_of_decimal n (omega arith), le-leb 1 n h.0, le-leb n limit le) refl
+
+case_from_is : (word : List ℕ) (case : NameCase) → case_from word ≡ Ok case → IsCaseWord case word
+case_from_is word case e = case_by (bytes_eq word (codes "sensitive")) (bytes_eq-Decides word (codes "sensitive")) e
+  where
+    case_by : (b : Bool) → Decides b (word ≡ codes "sensitive") → cond b (Ok Sensitive) (Err causes.BadNumber) ≡ Ok case → IsCaseWord case word
+    case_by true d e = (sym (ok_is Sensitive case e), d.0 refl)
+    case_by false d e = absurd cc
+
+case_from_again : (word : List ℕ) (case : NameCase) → IsCaseWord case word → case_from word ≡ Ok case
+case_from_again word case h = rw (h.0, h.1) refl
+
+-- the words after the name of a form with a case
+abbrev CaseWords : NameCase → List (List ℕ) → Type 0
+CaseWords case args = (word : List ℕ) × IsCaseWord case word × (args ≡ word ∷ [])
+
+one_case_is : (args : List (List ℕ)) (case : NameCase) → one_case args ≡ Ok case → CaseWords case args
+one_case_is [] case e = absurd cc
+one_case_is (word ∷ []) case e = (word, case_from_is word case e, refl)
+one_case_is (word ∷ v ∷ more) case e = absurd cc
+
+one_case_again : (args : List (List ℕ)) (case : NameCase) → CaseWords case args → one_case args ≡ Ok case
+one_case_again args case h = rw h.2 (case_from_again h.0 case h.1)
+
 -- ---- rows of a table
 
 -- the row of the word, or a later one
@@ -193,16 +243,42 @@ plain_row Is name it is word args x w e =
     let b = bind_ok (no_more args) (λ _. Ok it) x e in
     subst (λ (y : _). Is y (word ∷ args)) (ok_is it x b.2) (is (word ∷ args) (cons_same word name args [] w (no_more_is args b.0 b.1)))
 
+number_row : {X : Type 0} (Is : X → List (List ℕ) → Type 0) (name : List ℕ) (limit : ℕ) (make : ℕ → X) → ((n : ℕ) (words : List (List ℕ)) → IsNumberForm name limit n words → Is (make n) words) → RowIs Is (name, with_number limit make)
+unfolding RowIs
+number_row Is name limit make is word args x w e =
+    let b = bind_ok (one_number limit args) (λ n. Ok (make n)) x e in
+    let i = one_number_is limit args b.0 b.1 in
+    subst (λ (y : _). Is y (word ∷ args)) (ok_is (make b.0) x b.2) (is b.0 (word ∷ args) (i.0, i.1, cons_same word name args (decimal b.0 ∷ []) w i.2))
+
+case_row : {X : Type 0} (Is : X → List (List ℕ) → Type 0) (name : List ℕ) (make : NameCase → X) → ((case : NameCase) (words : List (List ℕ)) → IsCaseForm name case words → Is (make case) words) → RowIs Is (name, with_case make)
+unfolding RowIs
+case_row Is name make is word args x w e =
+    let b = bind_ok (one_case args) (λ case. Ok (make case)) x e in
+    let i = one_case_is args b.0 b.1 in
+    subst (λ (y : _). Is y (word ∷ args)) (ok_is (make b.0) x b.2) (is b.0 (word ∷ args) (i.0, i.1, cons_same word name args (i.0 ∷ []) w i.2))
+
 -- ---- opening lines and commands, row by row
 
 pub opening_is : (word : List ℕ) (args : List (List ℕ)) (opening : Opening) → opening_of word args ≡ Ok opening → IsOpening opening (word ∷ args)
 unfolding opening_of
 opening_is word =
     table_is IsOpening opening_forms unknown word (
-      path_row IsOpening (codes "dir") Dir (λ path words h. h),
+      case_row IsOpening (codes "case") Case (λ case words h. h),
       (
-        file_row IsOpening (codes "file") File (λ path bytes words h. h),
-        tt,
+        number_row IsOpening (codes "queue") 65536 Queue (λ n words h. h),
+        (
+          number_row IsOpening (codes "places") 65536 Places (λ n words h. h),
+          (
+            number_row IsOpening (codes "workers") 16 Workers (λ n words h. h),
+            (
+              path_row IsOpening (codes "dir") Dir (λ path words h. h),
+              (
+                file_row IsOpening (codes "file") File (λ path bytes words h. h),
+                tt,
+              ),
+            ),
+          ),
+        ),
       ),
     )
     (unknown_is IsOpening word)
@@ -211,14 +287,20 @@ plain_command_is : (word : List ℕ) → OtherIs IsCommand word (plain_command_o
 unfolding OtherIs plain_command_of
 plain_command_is word =
     table_is IsCommand plain_forms unknown word (
-      plain_row IsCommand (codes "deliver") Deliver (λ words h. h),
+      plain_row IsCommand (codes "lose") Lose (λ words h. h),
       (
-        plain_row IsCommand (codes "settle") Settle (λ words h. h),
+        plain_row IsCommand (codes "deliver") Deliver (λ words h. h),
         (
-          plain_row IsCommand (codes "read") Read (λ words h. h),
+          plain_row IsCommand (codes "settle") Settle (λ words h. h),
           (
-            plain_row IsCommand (codes "publish") Publish (λ words h. h),
-            tt,
+            plain_row IsCommand (codes "read") Read (λ words h. h),
+            (
+              plain_row IsCommand (codes "publish") Publish (λ words h. h),
+              (
+                plain_row IsCommand (codes "abandon") Abandon (λ words h. h),
+                tt,
+              ),
+            ),
           ),
         ),
       ),
@@ -286,8 +368,22 @@ file_row_again name word args make path bytes h =
       | inr e ↦ let f = parts_of word name args (path_text path ∷ []) e.1 in (f.0, rw (one_file_again path bytes args (h.0, h.1, inr (e.0, f.1))) refl)
     ]
 
+number_row_again : {X : Type 0} (name word : List ℕ) (args : List (List ℕ)) (limit : ℕ) (make : ℕ → X) (n : ℕ) → limit ≤ 65536 → IsNumberForm name limit n (word ∷ args) → (word ≡ name) × (with_number limit make args ≡ Ok (make n))
+number_row_again name word args limit make n few h =
+    let e = parts_of word name args (decimal n ∷ []) h.2 in
+    (e.0, rw (one_number_again limit n args few (h.0, h.1, e.1)) refl)
+
+case_row_again : {X : Type 0} (name word : List ℕ) (args : List (List ℕ)) (make : NameCase → X) (case : NameCase) → IsCaseForm name case (word ∷ args) → (word ≡ name) × (with_case make args ≡ Ok (make case))
+case_row_again name word args make case h =
+    let e = parts_of word name args (h.0 ∷ []) h.2 in
+    (e.0, rw (one_case_again args case (h.0, h.1, e.1)) refl)
+
 pub opening_again : (opening : Opening) (word : List ℕ) (args : List (List ℕ)) → IsOpening opening (word ∷ args) → opening_of word args ≡ Ok opening
 unfolding opening_of
+opening_again (Case case) word args h = let r = case_row_again (codes "case") word args Case case h in rw r.0 r.1
+opening_again (Queue n) word args h = let r = number_row_again (codes "queue") word args 65536 Queue n (lit≤ tt) h in rw r.0 r.1
+opening_again (Places n) word args h = let r = number_row_again (codes "places") word args 65536 Places n (lit≤ tt) h in rw r.0 r.1
+opening_again (Workers n) word args h = let r = number_row_again (codes "workers") word args 16 Workers n (lit≤ tt) h in rw r.0 r.1
 opening_again (Dir path) word args h = let r = path_row_again (codes "dir") word args Dir path h in rw r.0 r.1
 opening_again (File path bytes) word args h = let r = file_row_again (codes "file") word args File path bytes h in rw r.0 r.1
 
@@ -298,11 +394,13 @@ command_again (Edit (Mkdir path)) word args h = let r = path_row_again (codes "m
 command_again (Edit (Remove path)) word args h = let r = path_row_again (codes "remove") word args (λ p. Edit (Remove p)) path h in rw r.0 r.1
 command_again (Edit (Move from to)) word args h = let r = two_path_row_again (codes "move") word args (λ p q. Edit (Move p q)) from to h in rw r.0 r.1
 command_again (Event path) word args h = let r = path_row_again (codes "event") word args Event path h in rw r.0 r.1
+command_again Lose word args h = let e = parts_of word (codes "lose") args [] h in rw (e.0, e.1) refl
 command_again Deliver word args h = let e = parts_of word (codes "deliver") args [] h in rw (e.0, e.1) refl
 command_again Settle word args h = let e = parts_of word (codes "settle") args [] h in rw (e.0, e.1) refl
 command_again (Begin path) word args h = let r = path_row_again (codes "begin") word args Begin path h in rw r.0 r.1
 command_again Read word args h = let e = parts_of word (codes "read") args [] h in rw (e.0, e.1) refl
 command_again Publish word args h = let e = parts_of word (codes "publish") args [] h in rw (e.0, e.1) refl
+command_again Abandon word args h = let e = parts_of word (codes "abandon") args [] h in rw (e.0, e.1) refl
 command_again (Scan path) word args h = let r = path_row_again (codes "scan") word args Scan path h in rw r.0 r.1
 command_again (Find path) word args h = let r = path_row_again (codes "find") word args Find path h in rw r.0 r.1
 command_again (KindOf path) word args h = let r = path_row_again (codes "kind") word args KindOf path h in rw r.0 r.1

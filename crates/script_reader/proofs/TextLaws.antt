@@ -15,8 +15,12 @@ use Rattle.script_reader.specs.declared.script.Opening.{Opening}
 use Rattle.script_reader.specs.declared.script.Line.{Line}
 use Rattle.script_reader.specs.declared.script.Script.{Script}
 use Rattle.script_reader.specs.Gives.{◌>>=◌}
+use Rattle.script_reader.specs.Set.{settings_of, settings_after, with_set, IsOnce}
 use Rattle.script_reader.specs.Reading.{no_lines, with_line, after_line, at_line, after_parts, is_line_end, script_of, Reads}
 use Rattle.script_reader.specs.Grammar.{IsOpeningLine, IsCommandLine, AreLines, none, note, line, AreScript, IsTextOf, FirstBad, unended, ended}
+use Rattle.world_model.specs.declared.settings.Settings.{Settings}
+use Rattle.world_model.specs.Defaults.{default_settings}
+use Rattle.script_reader.proofs.SetLemmas.{settings_more, once_in_middle, once_with_last}
 use Rattle.script_reader.proofs.LineLaws.{LineAdds, nothing, setting, command, line_adds, note_read, setting_read, command_read}
 use Rattle.vfs_path.proofs.Cuts.{split_some}
 
@@ -48,29 +52,35 @@ run_append kind n s (x ∷ xs) ys t e =
 
 -- ---- the lines of a script are read
 
-openings_run : (kind : TextKind) (texts : List (List ℕ)) (os : List Opening) → AreLines IsOpeningLine texts os → (n : ℕ) (before : List Opening)
-    → after_lines kind n (record { opening = before; lines = [] }) texts ≡ Ok (record { opening = before ++ os; lines = [] })
-unfolding after_lines
-openings_run kind [] [] none n before = ap (λ (x : List Opening). Ok (record { opening = x; lines = [] })) (sym (append-nil before))
-openings_run kind [] (o ∷ os) impossible n before = elim impossible [ ]
-openings_run kind (t ∷ texts) os (note _ _ _ is more) n before = rw (note_read kind (record { opening = before; lines = [] }) t is) (openings_run kind texts os more (n + 1) before)
-openings_run kind (t ∷ texts) (o ∷ os) (line _ _ _ _ is more) n before =
-    rw (setting_read kind (record { opening = before; lines = [] }) t o is refl)
-    (openings_run kind texts os more (n + 1) (before ++ o ∷ []) ∙ ap (λ (x : List Opening). Ok (record { opening = x; lines = [] })) (append_assoc before (o ∷ []) os))
+-- a script of opening lines alone
+opening_alone : Settings → List Opening → Script
+opening_alone settings opening = record { settings = settings; opening = opening; lines = [] }
 
-lines_run : (kind : TextKind) (texts : List (List ℕ)) (ls : List Line) → AreLines (IsCommandLine kind) texts ls → (n : ℕ) (s : Script) → after_lines kind n s texts ≡ Ok (record { opening = s.opening; lines = s.lines ++ ls })
+openings_run : (kind : TextKind) (texts : List (List ℕ)) (os : List Opening) → AreLines IsOpeningLine texts os → (n : ℕ) (given : Settings) (before : List Opening) → IsOnce (before ++ os)
+    → after_lines kind n (opening_alone given before) texts ≡ Ok (opening_alone (settings_after given os) (before ++ os))
+unfolding after_lines opening_alone
+openings_run kind [] [] none n given before once = ap (λ (x : List Opening). Ok (opening_alone given x)) (sym (append-nil before))
+openings_run kind [] (o ∷ os) impossible n given before once = elim impossible [ ]
+openings_run kind (t ∷ texts) os (note _ _ _ is more) n given before once = rw (note_read kind (opening_alone given before) t is) (openings_run kind texts os more (n + 1) given before once)
+openings_run kind (t ∷ texts) (o ∷ os) (line _ _ _ _ is more) n given before once =
+    let all = append_assoc before (o ∷ []) os in
+    rw (setting_read kind (opening_alone given before) t o is refl (once_in_middle before o os once))
+    (openings_run kind texts os more (n + 1) (with_set given o) (before ++ o ∷ []) (subst IsOnce (sym all) once) ∙ ap (λ (x : List Opening). Ok (opening_alone (settings_after given (o ∷ os)) x)) all)
+
+lines_run : (kind : TextKind) (texts : List (List ℕ)) (ls : List Line) → AreLines (IsCommandLine kind) texts ls → (n : ℕ) (s : Script) → after_lines kind n s texts ≡ Ok (record { settings = s.settings; opening = s.opening; lines = s.lines ++ ls })
 unfolding after_lines
-lines_run kind [] [] none n s = ap (λ (x : List Line). Ok (record { opening = s.opening; lines = x })) (sym (append-nil s.lines))
+lines_run kind [] [] none n s = ap (λ (x : List Line). Ok (record { settings = s.settings; opening = s.opening; lines = x })) (sym (append-nil s.lines))
 lines_run kind [] (l ∷ ls) impossible n s = elim impossible [ ]
 lines_run kind (t ∷ texts) ls (note _ _ _ is more) n s = rw (note_read kind s t is) (lines_run kind texts ls more (n + 1) s)
 lines_run kind (t ∷ texts) (l ∷ ls) (line _ _ _ _ is more) n s =
     rw (command_read kind s t l is)
-    (lines_run kind texts ls more (n + 1) (with_line s l) ∙ ap (λ (x : List Line). Ok (record { opening = s.opening; lines = x })) (append_assoc s.lines (l ∷ []) ls))
+    (lines_run kind texts ls more (n + 1) (with_line s l) ∙ ap (λ (x : List Line). Ok (record { settings = s.settings; opening = s.opening; lines = x })) (append_assoc s.lines (l ∷ []) ls))
 
 pub script_run : (kind : TextKind) (n : ℕ) (lines : List (List ℕ)) (s : Script) → AreScript kind lines s → after_lines kind n no_lines lines ≡ Ok s
+unfolding opening_alone
 script_run kind n lines s h =
-    let first = openings_run kind h.first s.opening h.opening n [] in
-    rw h.both (run_append kind n no_lines h.first h.second _ first ∙ lines_run kind h.second s.lines h.commands (n + length h.first) (record { opening = s.opening; lines = [] }))
+    let first = openings_run kind h.first s.opening h.opening n default_settings [] h.once in
+    rw (h.both, h.settings) (run_append kind n no_lines h.first h.second _ first ∙ lines_run kind h.second s.lines h.commands (n + length h.first) (opening_alone (settings_of s.opening) s.opening))
 
 -- ---- and lines that are read are those of a script
 
@@ -78,7 +88,7 @@ script_run kind n lines s h =
 record AddsLines (kind : TextKind) (texts : List (List ℕ)) (s now : Script) : Type 0 where
   items : List Line
   lines : AreLines (IsCommandLine kind) texts items
-  now-is : now ≡ record { opening = s.opening; lines = s.lines ++ items }
+  now-is : now ≡ record { settings = s.settings; opening = s.opening; lines = s.lines ++ items }
 
 snoc_some : {X : Type 0} (xs : List X) (x : X) → xs ++ x ∷ [] ≡ [] → ⊥
 snoc_some [] x e = absurd cc
@@ -86,19 +96,19 @@ snoc_some (y ∷ ys) x e = absurd cc
 
 still_some : (kind : TextKind) (s : Script) (text : List ℕ) (t : Script) → LineAdds kind s text t → (s.lines ≡ [] → ⊥) → t.lines ≡ [] → ⊥
 still_some kind s text _ (nothing is) some e = some e
-still_some kind s text _ (setting o is bare) some e = some bare
+still_some kind s text _ (setting o is bare new) some e = some bare
 still_some kind s text _ (command l is) some e = snoc_some s.lines l e
 
 line_then : (kind : TextKind) (s : Script) (text : List ℕ) (t now : Script) (texts : List (List ℕ)) → LineAdds kind s text t → (s.lines ≡ [] → ⊥) → AddsLines kind texts t now → AddsLines kind (text ∷ texts) s now
 line_then kind s text _ now texts (nothing is) some h = record { items = h.items; lines = note text texts h.items is h.lines; now-is = h.now-is }
-line_then kind s text _ now texts (setting o is bare) some h = absurd (some bare)
+line_then kind s text _ now texts (setting o is bare new) some h = absurd (some bare)
 line_then kind s text _ now texts (command l is) some h =
-    record { items = l ∷ h.items; lines = line text l texts h.items is h.lines; now-is = h.now-is ∙ ap (λ (x : List Line). record { opening = s.opening; lines = x }) (append_assoc s.lines (l ∷ []) h.items) }
+    record { items = l ∷ h.items; lines = line text l texts h.items is h.lines; now-is = h.now-is ∙ ap (λ (x : List Line). record { settings = s.settings; opening = s.opening; lines = x }) (append_assoc s.lines (l ∷ []) h.items) }
 
 -- behind a command line there are command lines alone
 lines_only : (kind : TextKind) (n : ℕ) (texts : List (List ℕ)) (s now : Script) → (s.lines ≡ [] → ⊥) → after_lines kind n s texts ≡ Ok now → AddsLines kind texts s now
 unfolding after_lines
-lines_only kind n [] s now some e = record { items = []; lines = none; now-is = let same : s ≡ now = cc in sym same ∙ ap (λ (x : List Line). record { opening = s.opening; lines = x }) (sym (append-nil s.lines)) }
+lines_only kind n [] s now some e = record { items = []; lines = none; now-is = let same : s ≡ now = cc in sym same ∙ ap (λ (x : List Line). record { settings = s.settings; opening = s.opening; lines = x }) (sym (append-nil s.lines)) }
 lines_only kind n (text ∷ texts) s now some e =
     let b = line_ok n (after_line kind s text) (λ u. after_lines kind (n + 1) u texts) now e in
     let a = line_adds kind s text b.0 b.1 in
@@ -131,7 +141,7 @@ both_then : (kind : TextKind) (s : Script) (text : List ℕ) (t now : Script) (t
 both_then kind s text _ now texts (nothing is) bare more only =
     let h = more bare in
     record { first = text ∷ h.first; second = h.second; items = h.items; parts = ap (λ (x : List (List ℕ)). text ∷ x) h.parts; opening = note text h.first h.items is h.opening; commands = h.commands; now-is = h.now-is }
-both_then kind s text _ now texts (setting o is e) bare more only =
+both_then kind s text _ now texts (setting o is e new) bare more only =
     let h = more bare in
     record {
       first = text ∷ h.first;
@@ -154,14 +164,38 @@ run_adds kind n (text ∷ texts) s now bare e =
     let b = line_ok n (after_line kind s text) (λ u. after_lines kind (n + 1) u texts) now e in
     both_then kind s text b.0 now texts (line_adds kind s text b.0 b.1) bare (λ still. run_adds kind (n + 1) texts b.0 now still b.2) (λ some. lines_only kind (n + 1) texts b.0 now some b.2)
 
+-- nothing is set twice, and the settings are what the opening lines set
+record IsSet (s : Script) : Type 0 where
+  once : IsOnce s.opening
+  settings : s.settings ≡ settings_of s.opening
+
+adds_set : (kind : TextKind) (s : Script) (text : List ℕ) (t : Script) → LineAdds kind s text t → IsSet s → IsSet t
+adds_set kind s text _ (nothing is) h = h
+adds_set kind s text _ (setting o is bare new) h =
+    record {
+      once = once_with_last s.opening o h.once new;
+      settings = ap (λ (x : Settings). with_set x o) h.settings ∙ sym (settings_more default_settings s.opening (o ∷ []));
+    }
+adds_set kind s text _ (command l is) h = record { once = h.once; settings = h.settings }
+
+run_set : (kind : TextKind) (n : ℕ) (texts : List (List ℕ)) (s now : Script) → IsSet s → after_lines kind n s texts ≡ Ok now → IsSet now
+unfolding after_lines
+run_set kind n [] s now h e = let same : s ≡ now = cc in subst IsSet same h
+run_set kind n (text ∷ texts) s now h e =
+    let b = line_ok n (after_line kind s text) (λ u. after_lines kind (n + 1) u texts) now e in
+    run_set kind (n + 1) texts b.0 now (adds_set kind s text b.0 (line_adds kind s text b.0 b.1) h) b.2
+
 pub run_is_script : (kind : TextKind) (n : ℕ) (lines : List (List ℕ)) (s : Script) → after_lines kind n no_lines lines ≡ Ok s → AreScript kind lines s
 run_is_script kind n lines s e =
     let h = run_adds kind n lines no_lines s refl e in
+    let set = run_set kind n lines no_lines s (record { once = tt; settings = refl }) e in
     record {
       first = h.first;
       second = h.second;
       both = h.parts;
       opening = subst (λ (x : List Opening). AreLines IsOpeningLine h.first x) (sym h.now-is) h.opening;
+      once = set.once;
+      settings = set.settings;
       commands = h.commands;
     }
 

@@ -1,26 +1,32 @@
 -- A cause that is told holds.
-use Rattle.std.proofs.Common.{◌≡◌, ℕ, ◌<◌, ◌≤◌, Bool, true, false, cond, eqb, ltb, leb, List, [], ◌∷◌, ◌++◌, length, Option, Some, None, Result, Ok, Err, refl, sym, ap, subst, ◌∙◌, arith, inl, inr, ◌⊎◌, rules, Decides}
+use Rattle.std.proofs.Common.{◌≡◌, ℕ, ◌<◌, ◌≤◌, Bool, true, false, cond, eqb, ltb, leb, List, [], ◌∷◌, ◌++◌, length, Option, Some, None, Result, Ok, Err, refl, sym, ap, subst, ◌∙◌, ◌&&◌, ◌||◌, arith, inl, inr, ◌⊎◌, lit≤, lit<, rules, Decides}
 use Rattle.std.specs.Prelude.{codes}
 use Rattle.std.specs.Str.{bytes_eq}
 use Rattle.std.specs.List.{slice_split, list_any, AllByRecursion}
-use Rattle.std.proofs.lemmas.Bool.{leb-false, ltb-true}
+use Rattle.std.specs.Fmt.{decimal}
+use Rattle.std.proofs.lemmas.Bool.{leb-false, le-leb, ltb-true}
 use Rattle.std.proofs.Math.Dec.{eqb-suc-zero}
 use Rattle.std.proofs.lemmas.Slice.Eq.{bytes_eq-Decides}
+use Rattle.vfs_model.specs.declared.Case.{Case}
+use Rattle.vfs_model.specs.declared.Case.TheVariants.{Sensitive}
 use Rattle.vfs_model.specs.Paths.{Path}
 use Rattle.vfs_path.specs.declared.error.PathError.{PathError}
 use Rattle.vfs_path.specs.Texts.{path_of, is_empty}
 use Rattle.script_reader.specs.declared.cause.Cause.{Cause}
-use Rattle.script_reader.specs.declared.cause.Cause.TheVariants.{UnknownWord, WrongCount, BadPath, TooLarge, EmptyWord, BadEscape, BadCaller, LateSetting}
+use Rattle.script_reader.specs.declared.cause.Cause.TheVariants.{UnknownWord, WrongCount, BadNumber, BadPath, TooLarge, EmptyWord, BadEscape, BadCaller, LateSetting, Repeated}
 use Rattle.script_reader.specs.declared.script.TextKind.{TextKind}
 use Rattle.script_reader.specs.declared.script.TextKind.TheVariants.{Replay}
+use Rattle.script_reader.specs.declared.script.Opening.{Opening}
+use Rattle.script_reader.specs.declared.script.Opening.TheVariants as openings
 use Rattle.script_reader.specs.declared.script.Script.{Script}
 use Rattle.script_reader.specs.Gives.{◌>>=◌}
 use Rattle.script_reader.specs.Numbers.{number_of}
 use Rattle.script_reader.specs.Words.{is_note, hex_of, hex_pair, named_before, value_of, values_of, words_of}
-use Rattle.script_reader.specs.Forms.{Form, or_bad_path, path_from, content_from, file_from, two_paths, one_file, alone, with_path, with_two_paths, with_file, form_named, unknown, opening_forms, plain_forms, edit_forms, path_forms, opening_of, plain_command_of, path_command_of, command_of}
+use Rattle.script_reader.specs.Forms.{Form, or_bad_path, path_from, content_from, file_from, within, case_from, two_paths, one_file, alone, with_path, with_two_paths, with_file, with_number, with_case, form_named, unknown, opening_forms, plain_forms, edit_forms, path_forms, opening_of, plain_command_of, path_command_of, command_of}
 use Rattle.script_reader.specs.Reading.{with_opening, with_line, caller_from, with_setting, with_command, with_words, after_line}
-use Rattle.script_reader.specs.Grammar.{IsOpening, IsCommand}
-use Rattle.script_reader.specs.Holds.{HasWord, HoldsOfWords, Holds, empty, escape, caller, late, setting, command}
+use Rattle.script_reader.specs.Set.{is_same_setting}
+use Rattle.script_reader.specs.Grammar.{IsCaseWord, IsOpening, IsCommand}
+use Rattle.script_reader.specs.Holds.{HasOne, IsNoNumber, HasBadNumber, case, queue, places, workers, HoldsOfWords, Holds, empty, escape, caller, late, number, repeated, setting, command}
 use Rattle.script_reader.proofs.NumberLemmas.{decimal_of_number, number_of_decimal}
 use Rattle.script_reader.proofs.Tables.{bind_ok, done, ok_is, path_from_again, opening_is, opening_again, command_is, command_again}
 use Rattle.script_reader.proofs.LineLaws.{none_of, caller_is}
@@ -45,16 +51,27 @@ only_first (Err d) f c e = let same : d ≡ c = cc in ap (λ (y : Cause). Err y)
 
 -- ---- words
 
-word_here : (P : List ℕ → Type 0) (word : List ℕ) (words : List (List ℕ)) → P word → HasWord P (word ∷ words)
+word_here : (P : List ℕ → Type 0) (word : List ℕ) (words : List (List ℕ)) → P word → HasOne P (word ∷ words)
 word_here P word words h = ([], word, words, refl, h)
 
-word_later : (P : List ℕ → Type 0) (word : List ℕ) (words : List (List ℕ)) → HasWord P words → HasWord P (word ∷ words)
+word_later : (P : List ℕ → Type 0) (word : List ℕ) (words : List (List ℕ)) → HasOne P words → HasOne P (word ∷ words)
 word_later P word words h = (word ∷ h.0, h.1, h.2, ap (λ (ws : List (List ℕ)). word ∷ ws) h.3, h.4)
 
-empty_some : (parts : List (List ℕ)) → list_any is_empty parts ≡ true → HasWord (λ word. word ≡ []) parts
-empty_some [] e = absurd cc
-empty_some ([] ∷ parts) e = word_here (λ word. word ≡ []) [] parts refl
-empty_some ((b ∷ bs) ∷ parts) e = let later = rw eqb-suc-zero at e in word_later (λ word. word ≡ []) (b ∷ bs) parts (empty_some parts later)
+-- one of the items passes the test
+any_some : {A : Type 0} (p : A → Bool) (xs : List A) → list_any p xs ≡ true → HasOne (λ x. p x ≡ true) xs
+any_some p [] e = absurd cc
+any_some p (x ∷ xs) e = any_by (λ later. any_some p xs later) (p x) refl e
+  where
+    any_by : (list_any p xs ≡ true → HasOne (λ y. p y ≡ true) xs) → (b : Bool) → p x ≡ b → (b || list_any p xs) ≡ true → HasOne (λ y. p y ≡ true) (x ∷ xs)
+    any_by later true is h = ([], x, xs, refl, is)
+    any_by later false is h = let r = later h in (x ∷ r.0, r.1, r.2, ap (λ (ys : List _). x ∷ ys) r.3, r.4)
+
+none_of_bytes : (word : List ℕ) → is_empty word ≡ true → word ≡ []
+none_of_bytes [] e = refl
+none_of_bytes (b ∷ bs) e = absurd (let f = rw eqb-suc-zero at e in cc)
+
+empty_some : (parts : List (List ℕ)) → list_any is_empty parts ≡ true → HasOne (λ word. word ≡ []) parts
+empty_some parts e = let h = any_some is_empty parts e in (h.0, h.1, h.2, h.3, none_of_bytes h.1 h.4)
 
 no_empty : (parts before : List (List ℕ)) (word : List ℕ) (after : List (List ℕ)) → list_any is_empty parts ≡ false → parts ≡ before ++ word ∷ after → word ≡ [] → ⊥
 no_empty [] [] word after e is none = absurd cc
@@ -84,7 +101,7 @@ value_err (b ∷ h ∷ l ∷ rest) c e =
 
 record IsEscape (parts : List (List ℕ)) (c : Cause) : Type 0 where
   is : c ≡ BadEscape
-  has : HasWord (λ word. value_of word ≡ Err BadEscape) parts
+  has : HasOne (λ word. value_of word ≡ Err BadEscape) parts
 
 values_err : (parts : List (List ℕ)) (c : Cause) → values_of parts ≡ Err c → IsEscape parts c
 unfolding values_of
@@ -109,21 +126,22 @@ words_err s text c e = words_err_by s text c (list_any is_empty (slice_split (λ
 abbrev IsSome : {X : Type 0} → Form X → Type 0
 IsSome {X} form = (args : List (List ℕ)) × (x : X) × (form args ≡ Ok x)
 
--- what a form's cause says of the words after the second
-abbrev Tells : {X : Type 0} → Form X → List (List ℕ) → Cause → Type 0
-Tells form args UnknownWord = (other : List (List ℕ)) → form other ≡ Err UnknownWord
-Tells {X} form args WrongCount = ((other : List (List ℕ)) → length other ≡ length args → form other ≡ Err WrongCount) × IsSome form
-Tells form args (BadPath refusal) = HasWord (λ word. path_of word ≡ Err refusal) args
-Tells form args TooLarge = HasWord (λ word. 1048576 < length word) args
-Tells form args _ = ⊥
+-- what a form's cause says of the words after the second; of a bad number, what N says
+abbrev Tells : {X : Type 0} → (List (List ℕ) → Type 0) → Form X → List (List ℕ) → Cause → Type 0
+Tells N form args UnknownWord = (other : List (List ℕ)) → form other ≡ Err UnknownWord
+Tells {X} N form args WrongCount = ((other : List (List ℕ)) → length other ≡ length args → form other ≡ Err WrongCount) × IsSome form
+Tells N form args BadNumber = N args
+Tells N form args (BadPath refusal) = HasOne (λ word. path_of word ≡ Err refusal) args
+Tells N form args TooLarge = HasOne (λ word. 1048576 < length word) args
+Tells N form args _ = ⊥
 
-abbrev FormTells : {X : Type 0} → Form X → Type 0
-FormTells form = (args : List (List ℕ)) (c : Cause) → form args ≡ Err c → Tells form args c
+abbrev FormTells : {X : Type 0} → (List (List ℕ) → Type 0) → Form X → Type 0
+FormTells N form = (args : List (List ℕ)) (c : Cause) → form args ≡ Err c → Tells N form args c
 
 -- the words have a path that is refused with the cause, or bytes that are too many
 abbrev IsWordCause : List (List ℕ) → Cause → Type 0
-IsWordCause args (BadPath refusal) = HasWord (λ word. path_of word ≡ Err refusal) args
-IsWordCause args TooLarge = HasWord (λ word. 1048576 < length word) args
+IsWordCause args (BadPath refusal) = HasOne (λ word. path_of word ≡ Err refusal) args
+IsWordCause args TooLarge = HasOne (λ word. 1048576 < length word) args
 IsWordCause args _ = ⊥
 
 cause_later : (word : List ℕ) (args : List (List ℕ)) (c : Cause) → IsWordCause args c → IsWordCause (word ∷ args) c
@@ -131,13 +149,13 @@ cause_later word args (BadPath refusal) h = word_later (λ text. path_of text �
 cause_later word args TooLarge h = word_later (λ bytes. 1048576 < length bytes) word args h
 cause_later word args _ h = absurd h
 
-word_tells : {X : Type 0} (form : Form X) (args : List (List ℕ)) (c : Cause) → IsWordCause args c → Tells form args c
-word_tells form args (BadPath refusal) h = h
-word_tells form args TooLarge h = h
-word_tells form args _ h = absurd h
+word_tells : {X : Type 0} (N : List (List ℕ) → Type 0) (form : Form X) (args : List (List ℕ)) (c : Cause) → IsWordCause args c → Tells N form args c
+word_tells N form args (BadPath refusal) h = h
+word_tells N form args TooLarge h = h
+word_tells N form args _ h = absurd h
 
-count_tells : {X : Type 0} (form : Form X) (args : List (List ℕ)) (c : Cause) → failed {A = X} WrongCount ≡ Err c → IsSome form → ((other : List (List ℕ)) → length other ≡ length args → form other ≡ Err WrongCount) → Tells form args c
-count_tells {X} form args c e some h = subst (λ (d : Cause). Tells form args d) (err_is X WrongCount c e) (h, some)
+count_tells : {X : Type 0} (N : List (List ℕ) → Type 0) (form : Form X) (args : List (List ℕ)) (c : Cause) → failed {A = X} WrongCount ≡ Err c → IsSome form → ((other : List (List ℕ)) → length other ≡ length args → form other ≡ Err WrongCount) → Tells N form args c
+count_tells {X} N form args c e some h = subst (λ (d : Cause). Tells N form args d) (err_is X WrongCount c e) (h, some)
 
 -- the text of the root, and the words that it makes
 root : List ℕ
@@ -177,19 +195,19 @@ alone_many : {X : Type 0} (it : X) (other : List (List ℕ)) → (length other �
 alone_many it [] ne = absurd (ne refl)
 alone_many it (w ∷ ws) ne = refl
 
-alone_tells : {X : Type 0} (it : X) → FormTells (alone it)
-alone_tells it [] c e = absurd cc
-alone_tells it (w ∷ ws) c e = count_tells (alone it) (w ∷ ws) c e ([], it, refl) (λ other same. alone_many it other (λ zero. absurd (omega arith)))
+alone_tells : {X : Type 0} (N : List (List ℕ) → Type 0) (it : X) → FormTells N (alone it)
+alone_tells N it [] c e = absurd cc
+alone_tells N it (w ∷ ws) c e = count_tells N (alone it) (w ∷ ws) c e ([], it, refl) (λ other same. alone_many it other (λ zero. absurd (omega arith)))
 
 path_many : {X : Type 0} (make : Path → X) (other : List (List ℕ)) → (length other ≡ 1 → ⊥) → with_path make other ≡ Err WrongCount
 path_many make [] ne = refl
 path_many make (w ∷ []) ne = absurd (ne refl)
 path_many make (w ∷ v ∷ ws) ne = refl
 
-path_tells : {X : Type 0} (make : Path → X) → FormTells (with_path make)
-path_tells make [] c e = count_tells (with_path make) [] c e (path_some make) (λ other same. path_many make other (λ one. absurd (omega arith)))
-path_tells make (w ∷ []) c e = word_tells (with_path make) (w ∷ []) c (path_err w [] c (only_first (path_from w) make c e))
-path_tells make (w ∷ v ∷ ws) c e = count_tells (with_path make) (w ∷ v ∷ ws) c e (path_some make) (λ other same. path_many make other (λ one. absurd (omega arith)))
+path_tells : {X : Type 0} (N : List (List ℕ) → Type 0) (make : Path → X) → FormTells N (with_path make)
+path_tells N make [] c e = count_tells N (with_path make) [] c e (path_some make) (λ other same. path_many make other (λ one. absurd (omega arith)))
+path_tells N make (w ∷ []) c e = word_tells N (with_path make) (w ∷ []) c (path_err w [] c (only_first (path_from w) make c e))
+path_tells N make (w ∷ v ∷ ws) c e = count_tells N (with_path make) (w ∷ v ∷ ws) c e (path_some make) (λ other same. path_many make other (λ one. absurd (omega arith)))
 
 two_path_many : {X : Type 0} (make : Path → Path → X) (other : List (List ℕ)) → (length other ≡ 2 → ⊥) → with_two_paths make other ≡ Err WrongCount
 two_path_many make [] ne = refl
@@ -204,11 +222,11 @@ two_paths_err w v c e =
       | inr good ↦ cause_later w (v ∷ []) c (path_err v [] c (only_first (path_from v) (λ to. (good.0, to)) c good.2))
     ]
 
-two_path_tells : {X : Type 0} (make : Path → Path → X) → FormTells (with_two_paths make)
-two_path_tells make [] c e = count_tells (with_two_paths make) [] c e (two_path_some make) (λ other same. two_path_many make other (λ two. absurd (omega arith)))
-two_path_tells make (w ∷ []) c e = count_tells (with_two_paths make) (w ∷ []) c e (two_path_some make) (λ other same. two_path_many make other (λ two. absurd (omega arith)))
-two_path_tells make (w ∷ v ∷ []) c e = word_tells (with_two_paths make) (w ∷ v ∷ []) c (two_paths_err w v c (only_first (two_paths (w ∷ v ∷ [])) (λ a. make a.0 a.1) c e))
-two_path_tells make (w ∷ v ∷ u ∷ ws) c e = count_tells (with_two_paths make) (w ∷ v ∷ u ∷ ws) c e (two_path_some make) (λ other same. two_path_many make other (λ two. absurd (omega arith)))
+two_path_tells : {X : Type 0} (N : List (List ℕ) → Type 0) (make : Path → Path → X) → FormTells N (with_two_paths make)
+two_path_tells N make [] c e = count_tells N (with_two_paths make) [] c e (two_path_some make) (λ other same. two_path_many make other (λ two. absurd (omega arith)))
+two_path_tells N make (w ∷ []) c e = count_tells N (with_two_paths make) (w ∷ []) c e (two_path_some make) (λ other same. two_path_many make other (λ two. absurd (omega arith)))
+two_path_tells N make (w ∷ v ∷ []) c e = word_tells N (with_two_paths make) (w ∷ v ∷ []) c (two_paths_err w v c (only_first (two_paths (w ∷ v ∷ [])) (λ a. make a.0 a.1) c e))
+two_path_tells N make (w ∷ v ∷ u ∷ ws) c e = count_tells N (with_two_paths make) (w ∷ v ∷ u ∷ ws) c e (two_path_some make) (λ other same. two_path_many make other (λ two. absurd (omega arith)))
 
 file_many : {X : Type 0} (make : Path → List ℕ → X) (other : List (List ℕ)) → (length other ≡ 1 → ⊥) → (length other ≡ 2 → ⊥) → with_file make other ≡ Err WrongCount
 file_many make [] one two = refl
@@ -229,66 +247,169 @@ one_file_err w c e = elim (file_err w [] c e) [ inl bad ↦ path_err w [] c bad 
 two_words_err : (w v : List ℕ) (c : Cause) → one_file (w ∷ v ∷ []) ≡ Err c → IsWordCause (w ∷ v ∷ []) c
 two_words_err w v c e = elim (file_err w v c e) [ inl bad ↦ path_err w (v ∷ []) c bad | inr bad ↦ cause_later w (v ∷ []) c (content_err v [] c bad) ]
 
-file_tells : {X : Type 0} (make : Path → List ℕ → X) → FormTells (with_file make)
-file_tells make [] c e = count_tells (with_file make) [] c e (file_some make) (λ other same. file_many make other (λ one. absurd (omega arith)) (λ two. absurd (omega arith)))
-file_tells make (w ∷ []) c e = word_tells (with_file make) (w ∷ []) c (one_file_err w c (only_first (one_file (w ∷ [])) (λ a. make a.0 a.1) c e))
-file_tells make (w ∷ v ∷ []) c e = word_tells (with_file make) (w ∷ v ∷ []) c (two_words_err w v c (only_first (one_file (w ∷ v ∷ [])) (λ a. make a.0 a.1) c e))
-file_tells make (w ∷ v ∷ u ∷ ws) c e = count_tells (with_file make) (w ∷ v ∷ u ∷ ws) c e (file_some make) (λ other same. file_many make other (λ one. absurd (omega arith)) (λ two. absurd (omega arith)))
+file_tells : {X : Type 0} (N : List (List ℕ) → Type 0) (make : Path → List ℕ → X) → FormTells N (with_file make)
+file_tells N make [] c e = count_tells N (with_file make) [] c e (file_some make) (λ other same. file_many make other (λ one. absurd (omega arith)) (λ two. absurd (omega arith)))
+file_tells N make (w ∷ []) c e = word_tells N (with_file make) (w ∷ []) c (one_file_err w c (only_first (one_file (w ∷ [])) (λ a. make a.0 a.1) c e))
+file_tells N make (w ∷ v ∷ []) c e = word_tells N (with_file make) (w ∷ v ∷ []) c (two_words_err w v c (only_first (one_file (w ∷ v ∷ [])) (λ a. make a.0 a.1) c e))
+file_tells N make (w ∷ v ∷ u ∷ ws) c e = count_tells N (with_file make) (w ∷ v ∷ u ∷ ws) c e (file_some make) (λ other same. file_many make other (λ one. absurd (omega arith)) (λ two. absurd (omega arith)))
+
+-- ---- numbers and cases
+
+record IsOutside (limit : ℕ) (o : Option ℕ) (c : Cause) : Type 0 where
+  is : BadNumber ≡ c
+  none : (n : ℕ) → 1 ≤ n → n ≤ limit → o ≡ Some n → ⊥
+
+within_err_by : (limit m : ℕ) (c : Cause) (b : Bool) → (leb 1 m && leb m limit) ≡ b → cond b (Ok m) (Err BadNumber) ≡ Err c → IsOutside limit (Some m) c
+within_err_by limit m c true is e = absurd cc
+within_err_by limit m c false is e = record { is = err_is ℕ BadNumber c e; none = λ n some le same. let k : m ≡ n = cc in let fits : (leb 1 m && leb m limit) ≡ true = rw (k, le-leb 1 n some, le-leb n limit le) refl in absurd cc }
+
+within_err : (limit : ℕ) (o : Option ℕ) (c : Cause) → within limit o ≡ Err c → IsOutside limit o c
+within_err limit None c e = record { is = err_is ℕ BadNumber c e; none = λ n some le same. absurd cc }
+within_err limit (Some m) c e = within_err_by limit m c (leb 1 m && leb m limit) refl e
+
+number_some : {X : Type 0} (limit : ℕ) (make : ℕ → X) → 1 ≤ limit → IsSome (with_number limit make)
+number_some limit make some = (decimal 1 ∷ [], make 1, rw (number_of_decimal 1 (lit< tt), le-leb 1 limit some) refl)
+
+number_many : {X : Type 0} (limit : ℕ) (make : ℕ → X) (other : List (List ℕ)) → (length other ≡ 1 → ⊥) → with_number limit make other ≡ Err WrongCount
+number_many limit make [] ne = refl
+number_many limit make (w ∷ []) ne = absurd (ne refl)
+number_many limit make (w ∷ v ∷ ws) ne = refl
+
+number_tells : {X : Type 0} (N : List (List ℕ) → Type 0) (limit : ℕ) (make : ℕ → X) → 1 ≤ limit → limit ≤ 65536 → ((word : List ℕ) → IsNoNumber limit word → N (word ∷ [])) → FormTells N (with_number limit make)
+number_tells N limit make some few bad [] c e = count_tells N (with_number limit make) [] c e (number_some limit make some) (λ other same. number_many limit make other (λ one. absurd (omega arith)))
+number_tells N limit make some few bad (w ∷ []) c e =
+    let o = within_err limit (number_of w) c (only_first (within limit (number_of w)) make c e) in
+    subst (λ (d : Cause). Tells N (with_number limit make) (w ∷ []) d) o.is (bad w (λ n low high is. o.none n low high (ap number_of is ∙ number_of_decimal n (omega (arith, high, few)))))
+number_tells N limit make some few bad (w ∷ v ∷ ws) c e = count_tells N (with_number limit make) (w ∷ v ∷ ws) c e (number_some limit make some) (λ other same. number_many limit make other (λ one. absurd (omega arith)))
+
+case_err_by : (word : List ℕ) (c : Cause) (b : Bool) → Decides b (word ≡ codes "sensitive") → cond b (Ok Sensitive) (Err BadNumber) ≡ Err c → (BadNumber ≡ c) × ((k : Case) → IsCaseWord k word → ⊥)
+case_err_by word c true d e = absurd cc
+case_err_by word c false d e = (err_is Case BadNumber c e, λ k h. let f = d.1 h.1 in absurd cc)
+
+case_some : {X : Type 0} (make : Case → X) → IsSome (with_case make)
+case_some make = (codes "sensitive" ∷ [], make Sensitive, refl)
+
+case_many : {X : Type 0} (make : Case → X) (other : List (List ℕ)) → (length other ≡ 1 → ⊥) → with_case make other ≡ Err WrongCount
+case_many make [] ne = refl
+case_many make (w ∷ []) ne = absurd (ne refl)
+case_many make (w ∷ v ∷ ws) ne = refl
+
+case_tells : {X : Type 0} (N : List (List ℕ) → Type 0) (make : Case → X) → ((word : List ℕ) → ((k : Case) → IsCaseWord k word → ⊥) → N (word ∷ [])) → FormTells N (with_case make)
+case_tells N make bad [] c e = count_tells N (with_case make) [] c e (case_some make) (λ other same. case_many make other (λ one. absurd (omega arith)))
+case_tells N make bad (w ∷ []) c e =
+    let o = case_err_by w c (bytes_eq w (codes "sensitive")) (bytes_eq-Decides w (codes "sensitive")) (only_first (case_from w) make c e) in
+    subst (λ (d : Cause). Tells N (with_case make) (w ∷ []) d) o.0 (bad w o.1)
+case_tells N make bad (w ∷ v ∷ ws) c e = count_tells N (with_case make) (w ∷ v ∷ ws) c e (case_some make) (λ other same. case_many make other (λ one. absurd (omega arith)))
 
 -- ---- tables
 
-unknown_tells : (X : Type 0) → FormTells (unknown {X = X})
-unknown_tells X args c e = subst (λ (d : Cause). Tells (unknown {X = X}) args d) (err_is X UnknownWord c e) (λ other. refl)
+unknown_tells : (X : Type 0) (N : List (List ℕ) → Type 0) → FormTells N (unknown {X = X})
+unknown_tells X N args c e = subst (λ (d : Cause). Tells N (unknown {X = X}) args d) (err_is X UnknownWord c e) (λ other. refl)
 
-one_of_tells : {X : Type 0} (b : Bool) (here later : Form X) → FormTells here → FormTells later → FormTells (λ args. cond b (here args) (later args))
-one_of_tells true here later h l args c e = h args c e
-one_of_tells false here later h l args c e = l args c e
+one_of_tells : {X : Type 0} (N : List (List ℕ) → Type 0) (word name : List ℕ) (b : Bool) (here later : Form X) → Decides b (word ≡ name) → (word ≡ name → FormTells N here) → FormTells N later → FormTells N (λ args. cond b (here args) (later args))
+one_of_tells N word name true here later d h l args c e = h (d.0 refl) args c e
+one_of_tells N word name false here later d h l args c e = l args c e
 
-abbrev RowTells : {X : Type 0} → List ℕ × Form X → Type 0
-RowTells row = FormTells row.1
+-- what a row's form tells where the word is its name
+RowTells : {X : Type 0} → (List (List ℕ) → Type 0) → List ℕ → List ℕ × Form X → Type 0
+RowTells N word row = word ≡ row.0 → FormTells N row.1
 
-table_tells : {X : Type 0} (rows : List (List ℕ × Form X)) (other : Form X) (word : List ℕ) → AllByRecursion RowTells rows → FormTells other → FormTells (form_named rows other word)
-table_tells [] other word each last = last
-table_tells (r ∷ rows) other word each last = one_of_tells (bytes_eq word r.0) r.1 (form_named rows other word) each.0 (table_tells rows other word each.1 last)
+table_tells : {X : Type 0} (N : List (List ℕ) → Type 0) (rows : List (List ℕ × Form X)) (other : Form X) (word : List ℕ) → AllByRecursion (RowTells N word) rows → FormTells N other → FormTells N (form_named rows other word)
+unfolding RowTells
+table_tells N [] other word each last = last
+table_tells N (r ∷ rows) other word each last = one_of_tells N word r.0 (bytes_eq word r.0) r.1 (form_named rows other word) (bytes_eq-Decides word r.0) each.0 (table_tells N rows other word each.1 last)
 
-opening_tells : (word : List ℕ) → FormTells (opening_of word)
-unfolding opening_of
-opening_tells word = table_tells opening_forms unknown word (path_tells _, (file_tells _, tt)) (unknown_tells _)
+opening_tells : (word : List ℕ) → FormTells (λ args. HasBadNumber (word ∷ args)) (opening_of word)
+unfolding RowTells opening_of
+opening_tells word =
+    let N = λ (args : List (List ℕ)). HasBadNumber (word ∷ args) in
+    table_tells N opening_forms unknown word (
+      (λ is. case_tells N openings.Case (λ v no. rw is (case v no))),
+      (
+        (λ is. number_tells N 65536 openings.Queue (lit≤ tt) (lit≤ tt) (λ v no. rw is (queue v no))),
+        (
+          (λ is. number_tells N 65536 openings.Places (lit≤ tt) (lit≤ tt) (λ v no. rw is (places v no))),
+          ((λ is. number_tells N 16 openings.Workers (lit≤ tt) (lit≤ tt) (λ v no. rw is (workers v no))), ((λ is. path_tells N _), ((λ is. file_tells N _), tt))),
+        ),
+      ),
+    )
+    (unknown_tells _ N)
 
-plain_tells : (word : List ℕ) → FormTells (plain_command_of word)
-unfolding plain_command_of
-plain_tells word = table_tells plain_forms unknown word (alone_tells _, (alone_tells _, (alone_tells _, (alone_tells _, tt)))) (unknown_tells _)
+-- no command has a number
+abbrev no_number : List (List ℕ) → Type 0
+no_number args = ⊥
 
-path_command_tells : (word : List ℕ) → FormTells (path_command_of word)
-unfolding path_command_of
+plain_tells : (word : List ℕ) → FormTells no_number (plain_command_of word)
+unfolding RowTells plain_command_of
+plain_tells word =
+    table_tells no_number plain_forms unknown word (
+      (λ is. alone_tells no_number _),
+      ((λ is. alone_tells no_number _), ((λ is. alone_tells no_number _), ((λ is. alone_tells no_number _), ((λ is. alone_tells no_number _), ((λ is. alone_tells no_number _), tt))))),
+    )
+    (unknown_tells _ no_number)
+
+path_command_tells : (word : List ℕ) → FormTells no_number (path_command_of word)
+unfolding RowTells path_command_of
 path_command_tells word =
-    table_tells path_forms (plain_command_of word) word (path_tells _, (path_tells _, (path_tells _, (path_tells _, (path_tells _, (path_tells _, tt)))))) (plain_tells word)
+    table_tells no_number path_forms (plain_command_of word) word (
+      (λ is. path_tells no_number _),
+      ((λ is. path_tells no_number _), ((λ is. path_tells no_number _), ((λ is. path_tells no_number _), ((λ is. path_tells no_number _), ((λ is. path_tells no_number _), tt))))),
+    )
+    (plain_tells word)
 
-command_tells : (word : List ℕ) → FormTells (command_of word)
-unfolding command_of
-command_tells word = table_tells edit_forms (path_command_of word) word (file_tells _, (path_tells _, (path_tells _, (two_path_tells _, tt)))) (path_command_tells word)
+command_tells : (word : List ℕ) → FormTells no_number (command_of word)
+unfolding RowTells command_of
+command_tells word =
+    table_tells no_number edit_forms (path_command_of word) word ((λ is. file_tells no_number _), ((λ is. path_tells no_number _), ((λ is. path_tells no_number _), ((λ is. two_path_tells no_number _), tt)))) (path_command_tells word)
 
--- what a form tells holds in the words of the grammar, where each of its words is read
-tells_holds : {X : Type 0} (IsForm : X → List (List ℕ) → Type 0) (form : Form X) (word : List ℕ) → ((x : X) (args : List (List ℕ)) → IsForm x (word ∷ args) → form args ≡ Ok x) → ((x : X) (args : List (List ℕ)) → form args ≡ Ok x → IsForm x (word ∷ args))
-    → (args : List (List ℕ)) (c : Cause) → Tells form args c → HoldsOfWords IsForm (word ∷ args) c
-tells_holds IsForm form word again is args UnknownWord t = λ x other h. let e = again x other h in let f = t other in absurd cc
-tells_holds IsForm form word again is args WrongCount t = (λ x other h same. let e = again x other h in let f = t.0 other same in absurd cc, λ no. no t.1.1 t.1.0 (is t.1.1 t.1.0 t.1.2))
-tells_holds IsForm form word again is args (BadPath refusal) t = t
-tells_holds IsForm form word again is args TooLarge t = t
-tells_holds IsForm form word again is args _ t = absurd t
+-- what a form tells is a bad number, or holds in the words of the grammar, where each of its words is read
+TellsTrue : {X : Type 0} → (X → List (List ℕ) → Type 0) → (List (List ℕ) → Type 0) → List ℕ → List (List ℕ) → Cause → Type 0
+TellsTrue IsForm N word args c = ((BadNumber ≡ c) × N args) ⊎ HoldsOfWords IsForm (word ∷ args) c
+
+tells_holds : {X : Type 0} (N : List (List ℕ) → Type 0) (IsForm : X → List (List ℕ) → Type 0) (form : Form X) (word : List ℕ) → ((x : X) (args : List (List ℕ)) → IsForm x (word ∷ args) → form args ≡ Ok x) → ((x : X) (args : List (List ℕ)) → form args ≡ Ok x → IsForm x (word ∷ args))
+    → (args : List (List ℕ)) (c : Cause) → Tells N form args c → TellsTrue IsForm N word args c
+unfolding TellsTrue
+tells_holds N IsForm form word again is args UnknownWord t = inr (λ x other h. let e = again x other h in let f = t other in absurd cc)
+tells_holds N IsForm form word again is args WrongCount t = inr (λ x other h same. let e = again x other h in let f = t.0 other same in absurd cc, λ no. no t.1.1 t.1.0 (is t.1.1 t.1.0 t.1.2))
+tells_holds N IsForm form word again is args BadNumber t = inl (refl, t)
+tells_holds N IsForm form word again is args (BadPath refusal) t = inr t
+tells_holds N IsForm form word again is args TooLarge t = inr t
+tells_holds N IsForm form word again is args _ t = absurd t
 
 -- ---- lines
 
-setting_holds : (s : Script) (more : List (List ℕ)) (c : Cause) → with_setting s more ≡ Err c → HoldsOfWords IsOpening more c
-setting_holds s [] c e = sym (err_is Script WrongCount c e)
-setting_holds s (word ∷ args) c e =
-    tells_holds IsOpening (opening_of word) word (λ o other h. opening_again o word other h) (λ o other h. opening_is word other o h) args c (opening_tells word args c (only_first (opening_of word args) (λ o. with_opening s o) c e))
+setting_holds_by : (s : Script) (text word : List ℕ) (args : List (List ℕ)) (c : Cause) → words_of text ≡ Ok (codes "set" ∷ word ∷ args) → s.lines ≡ [] → TellsTrue IsOpening (λ more. HasBadNumber (word ∷ more)) word args c → Holds s text c
+unfolding TellsTrue
+setting_holds_by s text word args c w bare (inl bad) = subst (λ (d : Cause). Holds s text d) bad.0 (number (word ∷ args) w bare bad.1)
+setting_holds_by s text word args c w bare (inr h) = setting (word ∷ args) c w bare h
+
+repeated_holds : (s : Script) (text : List ℕ) (more : List (List ℕ)) (o : Opening) (c : Cause) (b : Bool) → words_of text ≡ Ok (codes "set" ∷ more) → s.lines ≡ [] → IsOpening o more → list_any (is_same_setting o) s.opening ≡ b
+    → cond b (Err Repeated) (Ok (with_opening s o)) ≡ Err c → Holds s text c
+repeated_holds s text more o c true w bare is any e = subst (λ (d : Cause). Holds s text d) (err_is Script Repeated c e) (repeated more o w bare is (any_some (is_same_setting o) s.opening any))
+repeated_holds s text more o c false w bare is any e = absurd cc
+
+setting_holds : (s : Script) (text : List ℕ) (more : List (List ℕ)) (c : Cause) → words_of text ≡ Ok (codes "set" ∷ more) → s.lines ≡ [] → with_setting s more ≡ Err c → Holds s text c
+setting_holds s text [] c w bare e = setting [] c w bare (sym (err_is Script WrongCount c e))
+setting_holds s text (word ∷ args) c w bare e =
+    elim (bind_err (opening_of word args) (λ o. cond (list_any (is_same_setting o) s.opening) (Err Repeated) (Ok (with_opening s o))) c e) [
+      | inl bad ↦ setting_holds_by s text word args c w bare (
+          tells_holds (λ other. HasBadNumber (word ∷ other)) IsOpening (opening_of word) word (λ o other h. opening_again o word other h) (λ o other h. opening_is word other o h) args c (opening_tells word args c bad)
+          )
+      | inr good ↦ repeated_holds s text (word ∷ args) good.0 c (list_any (is_same_setting good.0) s.opening) w bare (opening_is word args good.0 good.1) refl good.2
+    ]
+
+command_holds_by : (word : List ℕ) (args : List (List ℕ)) (c : Cause) → TellsTrue IsCommand no_number word args c → HoldsOfWords IsCommand (word ∷ args) c
+unfolding TellsTrue
+command_holds_by word args c (inl bad) = absurd bad.1
+command_holds_by word args c (inr h) = h
 
 command_holds : (kind : TextKind) (s : Script) (n : ℕ) (more : List (List ℕ)) (c : Cause) → with_command kind s n more ≡ Err c → HoldsOfWords IsCommand more c
 command_holds kind s n [] c e = sym (err_is Script WrongCount c e)
 command_holds Replay s n (word ∷ args) c e =
-    tells_holds IsCommand (command_of word) word (λ x other h. command_again x word other h) (λ x other h. command_is word other x h) args c
+    command_holds_by word args c (
+    tells_holds no_number IsCommand (command_of word) word (λ x other h. command_again x word other h) (λ x other h. command_is word other x h) args c
     (command_tells word args c (only_first (command_of word args) (λ x. with_line s (record { caller = n; command = x })) c e))
+    )
 
 record IsNoCaller (o : Option ℕ) (c : Cause) : Type 0 where
   is : BadCaller ≡ c
@@ -303,7 +424,7 @@ caller_err None c e = record { is = err_is ℕ BadCaller c e; none = λ n le sam
 caller_err (Some m) c e = caller_err_by m c (leb m 15) refl e
 
 late_holds : (s : Script) (text : List ℕ) (more : List (List ℕ)) (c : Cause) (b : Bool) → words_of text ≡ Ok (codes "set" ∷ more) → eqb (length s.lines) 0 ≡ b → cond b (with_setting s more) (Err LateSetting) ≡ Err c → Holds s text c
-late_holds s text more c true w is e = setting more c w (none_of s.lines is) (setting_holds s more c e)
+late_holds s text more c true w is e = setting_holds s text more c w (none_of s.lines is) e
 late_holds s text more c false w is e = subst (λ (d : Cause). Holds s text d) (err_is Script LateSetting c e) (late more w (λ none. let k : eqb (length s.lines) 0 ≡ true = rw none refl in absurd cc))
 
 first_holds : (kind : TextKind) (s : Script) (text first : List ℕ) (more : List (List ℕ)) (c : Cause) (b : Bool) → words_of text ≡ Ok (first ∷ more) → Decides b (first ≡ codes "set")

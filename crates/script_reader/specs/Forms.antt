@@ -1,6 +1,8 @@
 -- The forms of lines: how the words after a caller, or after `set`, are read.
-use Rattle.std.specs.Prelude.{ℕ, List, [], ◌∷◌, Result, Ok, Err, length, nat_lt, if◌then◌else◌, codes}
+use Rattle.std.specs.Prelude.{ℕ, List, [], ◌∷◌, Option, Some, None, Result, Ok, Err, length, nat_lt, nat_le, ◌&&◌, if◌then◌else◌, codes}
 use Rattle.std.specs.Str.{bytes_eq}
+use Rattle.vfs_model.specs.declared.Case.{Case}
+use Rattle.vfs_model.specs.declared.Case.TheVariants.{Sensitive}
 use Rattle.vfs_model.specs.Paths.{Path}
 use Rattle.vfs_path.specs.declared.error.PathError.{PathError}
 use Rattle.vfs_path.specs.Texts.{path_of}
@@ -12,6 +14,7 @@ use Rattle.script_reader.specs.declared.script.Opening.TheVariants as openings
 use Rattle.script_reader.specs.declared.script.Command.{Command}
 use Rattle.script_reader.specs.declared.script.Command.TheVariants as commands
 use Rattle.script_reader.specs.Gives.{◌>>=◌}
+use Rattle.script_reader.specs.Numbers.{number_of}
 
 -- ---- words that stand for values
 
@@ -31,6 +34,15 @@ content_from word = if nat_lt 1048576 (length word) then Err causes.TooLarge els
 -- the path and the contents of a file
 abbrev pub file_from : List ℕ → List ℕ → Result (Path × List ℕ) Cause
 file_from word bytes = path_from word >>= λ path. content_from bytes >>= λ content. Ok (path, content)
+
+-- the number, which is to be from 1 to the limit
+abbrev pub within : ℕ → Option ℕ → Result ℕ Cause
+within limit None = Err causes.BadNumber
+within limit (Some n) = if nat_le 1 n && nat_le n limit then Ok n else Err causes.BadNumber
+
+-- the case that the word names
+abbrev pub case_from : List ℕ → Result Case Cause
+case_from word = if bytes_eq word (codes "sensitive") then Ok Sensitive else Err causes.BadNumber
 
 -- ---- what may stand after the second word
 
@@ -55,6 +67,16 @@ one_file (word ∷ []) = file_from word []
 one_file (word ∷ bytes ∷ []) = file_from word bytes
 one_file _ = Err causes.WrongCount
 
+-- a number from 1 to the limit
+abbrev pub one_number : ℕ → List (List ℕ) → Result ℕ Cause
+one_number limit (word ∷ []) = within limit (number_of word)
+one_number limit _ = Err causes.WrongCount
+
+-- a case
+abbrev pub one_case : List (List ℕ) → Result Case Cause
+one_case (word ∷ []) = case_from word
+one_case _ = Err causes.WrongCount
+
 -- ---- forms, by the second word
 
 -- how the words after the second are read
@@ -77,6 +99,14 @@ with_two_paths make args = two_paths args >>= λ paths. Ok (make paths.0 paths.1
 abbrev pub with_file : {X : Type 0} → (Path → List ℕ → X) → Form X
 with_file make args = one_file args >>= λ file. Ok (make file.0 file.1)
 
+-- the word and a number from 1 to the limit
+abbrev pub with_number : {X : Type 0} → ℕ → (ℕ → X) → Form X
+with_number limit make args = one_number limit args >>= λ n. Ok (make n)
+
+-- the word and a case
+abbrev pub with_case : {X : Type 0} → (Case → X) → Form X
+with_case make args = one_case args >>= λ case. Ok (make case)
+
 -- the form with this name, or another where none of the rows has it
 abbrev pub form_named : {X : Type 0} → List (List ℕ × Form X) → Form X → List ℕ → Form X
 form_named [] other word args = other args
@@ -91,17 +121,23 @@ unknown args = Err causes.UnknownWord
 -- the opening lines
 abbrev pub opening_forms : List (List ℕ × Form Opening)
 opening_forms =
-    (codes "dir", with_path openings.Dir)
+    (codes "case", with_case openings.Case)
+    ∷ (codes "queue", with_number 65536 openings.Queue)
+    ∷ (codes "places", with_number 65536 openings.Places)
+    ∷ (codes "workers", with_number 16 openings.Workers)
+    ∷ (codes "dir", with_path openings.Dir)
     ∷ (codes "file", with_file openings.File)
     ∷ []
 
 -- the commands that are a word alone
 abbrev pub plain_forms : List (List ℕ × Form Command)
 plain_forms =
-    (codes "deliver", alone commands.Deliver)
+    (codes "lose", alone commands.Lose)
+    ∷ (codes "deliver", alone commands.Deliver)
     ∷ (codes "settle", alone commands.Settle)
     ∷ (codes "read", alone commands.Read)
     ∷ (codes "publish", alone commands.Publish)
+    ∷ (codes "abandon", alone commands.Abandon)
     ∷ []
 
 -- the edits

@@ -2,6 +2,8 @@
 use Rattle.std.specs.Prelude.{◌≡◌, ℕ, ◌+◌, ◌≤◌, ◌⊎◌, List, [], ◌∷◌, ◌++◌, length, true, false, Ok, Err, codes, ◌==◌}
 use Rattle.std.specs.List.{slice_split}
 use Rattle.std.specs.Fmt.{decimal}
+use Rattle.vfs_model.specs.declared.Case.{Case as NameCase}
+use Rattle.vfs_model.specs.declared.Case.TheVariants.{Sensitive}
 use Rattle.vfs_model.specs.Paths.{Path}
 use Rattle.vfs_path.specs.Texts.{IsPath, path_text}
 use Rattle.world_model.specs.declared.edit.Edit.{Edit as EditValue}
@@ -11,12 +13,13 @@ use Rattle.script_reader.specs.declared.cause.Cause.TheVariants as causes
 use Rattle.script_reader.specs.declared.cause.BadLine.{BadLine}
 use Rattle.script_reader.specs.declared.script.TextKind.{TextKind}
 use Rattle.script_reader.specs.declared.script.Opening.{Opening}
-use Rattle.script_reader.specs.declared.script.Opening.TheVariants.{Dir, File}
+use Rattle.script_reader.specs.declared.script.Opening.TheVariants.{Case, Queue, Places, Workers, Dir, File}
 use Rattle.script_reader.specs.declared.script.Command.{Command}
-use Rattle.script_reader.specs.declared.script.Command.TheVariants.{Edit, Event, Deliver, Settle, Begin, Read, Publish, Scan, Find, KindOf, VersionOf}
+use Rattle.script_reader.specs.declared.script.Command.TheVariants.{Edit, Event, Lose, Deliver, Settle, Begin, Read, Publish, Abandon, Scan, Find, KindOf, VersionOf}
 use Rattle.script_reader.specs.declared.script.Line.{Line}
 use Rattle.script_reader.specs.declared.script.Script.{Script}
 use Rattle.script_reader.specs.Words.{is_note, words_of}
+use Rattle.script_reader.specs.Set.{settings_of, IsOnce}
 use Rattle.script_reader.specs.Reading.{is_in, after_line, is_line_end}
 
 -- ---- the forms, each with a name of its own
@@ -33,8 +36,24 @@ IsTwoPathForm name from to words = IsPath from × IsPath to × (words ≡ name �
 abbrev pub IsFileForm : List ℕ → Path → List ℕ → List (List ℕ) → Type 0
 IsFileForm name path bytes words = IsPath path × (length bytes ≤ 1048576) × ((words ≡ name ∷ path_text path ∷ bytes ∷ []) ⊎ ((bytes ≡ []) × (words ≡ name ∷ path_text path ∷ [])))
 
+-- a name and a number from 1 to the limit
+abbrev pub IsNumberForm : List ℕ → ℕ → ℕ → List (List ℕ) → Type 0
+IsNumberForm name limit n words = (1 ≤ n) × (n ≤ limit) × (words ≡ name ∷ decimal n ∷ [])
+
+-- a case that a script may name, and the word for it
+abbrev pub IsCaseWord : NameCase → List ℕ → Type 0
+IsCaseWord case word = (case ≡ Sensitive) × (word ≡ codes "sensitive")
+
+-- a name and a case
+abbrev pub IsCaseForm : List ℕ → NameCase → List (List ℕ) → Type 0
+IsCaseForm name case words = (word : List ℕ) × IsCaseWord case word × (words ≡ name ∷ word ∷ [])
+
 -- the words of an opening line after `set`
 abbrev pub IsOpening : Opening → List (List ℕ) → Type 0
+IsOpening (Case case) words = IsCaseForm (codes "case") case words
+IsOpening (Queue n) words = IsNumberForm (codes "queue") 65536 n words
+IsOpening (Places n) words = IsNumberForm (codes "places") 65536 n words
+IsOpening (Workers n) words = IsNumberForm (codes "workers") 16 n words
 IsOpening (Dir path) words = IsPathForm (codes "dir") path words
 IsOpening (File path bytes) words = IsFileForm (codes "file") path bytes words
 
@@ -49,11 +68,13 @@ IsEdit (Move from to) words = IsTwoPathForm (codes "move") from to words
 abbrev pub IsCommand : Command → List (List ℕ) → Type 0
 IsCommand (Edit edit) words = IsEdit edit words
 IsCommand (Event path) words = IsPathForm (codes "event") path words
+IsCommand Lose words = words ≡ codes "lose" ∷ []
 IsCommand Deliver words = words ≡ codes "deliver" ∷ []
 IsCommand Settle words = words ≡ codes "settle" ∷ []
 IsCommand (Begin path) words = IsPathForm (codes "begin") path words
 IsCommand Read words = words ≡ codes "read" ∷ []
 IsCommand Publish words = words ≡ codes "publish" ∷ []
+IsCommand Abandon words = words ≡ codes "abandon" ∷ []
 IsCommand (Scan path) words = IsPathForm (codes "scan") path words
 IsCommand (Find path) words = IsPathForm (codes "find") path words
 IsCommand (KindOf path) words = IsPathForm (codes "kind") path words
@@ -87,12 +108,14 @@ pub data AreLines {Item : Type 0} (IsLine : List ℕ → Item → Type 0) : List
 
 -- ---- texts
 
--- the texts of lines are those of the script: of its opening lines first, and then of its command lines
+-- the texts of lines are those of the script: of its opening lines first, which set nothing twice, and then of its command lines; its settings are what the opening lines set
 pub record AreScript (kind : TextKind) (lines : List (List ℕ)) (s : Script) : Type 0 where
   pub first : List (List ℕ)
   pub second : List (List ℕ)
   pub both : lines ≡ first ++ second
   pub opening : AreLines IsOpeningLine first s.opening
+  pub once : IsOnce s.opening
+  pub settings : s.settings ≡ settings_of s.opening
   pub commands : AreLines (IsCommandLine kind) second s.lines
 
 -- the text is that of the script: each line is ended, and the lines are those of the script

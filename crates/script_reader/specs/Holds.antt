@@ -1,17 +1,20 @@
 -- What a cause says of a line, in the words of the grammar.
-use Rattle.std.specs.Prelude.{◌≡◌, ◌≢◌, ℕ, ◌<◌, ◌≤◌, List, [], ◌∷◌, ◌++◌, length, Ok, Err, codes, ◌==◌}
+use Rattle.std.specs.Prelude.{◌≡◌, ◌≢◌, ℕ, ◌<◌, ◌≤◌, List, [], ◌∷◌, ◌++◌, length, true, Ok, Err, codes, ◌==◌}
 use Rattle.std.specs.List.{slice_split}
 use Rattle.std.specs.Fmt.{decimal}
+use Rattle.vfs_model.specs.declared.Case.{Case}
 use Rattle.vfs_path.specs.Texts.{path_of}
 use Rattle.script_reader.specs.declared.cause.Cause.{Cause}
-use Rattle.script_reader.specs.declared.cause.Cause.TheVariants.{UnknownWord, WrongCount, BadPath, TooLarge, EmptyWord, BadEscape, BadCaller, LateSetting}
+use Rattle.script_reader.specs.declared.cause.Cause.TheVariants.{UnknownWord, WrongCount, BadNumber, BadPath, TooLarge, EmptyWord, BadEscape, BadCaller, LateSetting, Repeated}
+use Rattle.script_reader.specs.declared.script.Opening.{Opening}
 use Rattle.script_reader.specs.declared.script.Script.{Script}
 use Rattle.script_reader.specs.Words.{value_of, words_of}
-use Rattle.script_reader.specs.Grammar.{IsOpening, IsCommand}
+use Rattle.script_reader.specs.Set.{is_same_setting}
+use Rattle.script_reader.specs.Grammar.{IsCaseWord, IsOpening, IsCommand}
 
--- one of the words is such
-abbrev pub HasWord : (List ℕ → Type 0) → List (List ℕ) → Type 0
-HasWord P words = (before : List (List ℕ)) × (word : List ℕ) × (after : List (List ℕ)) × (words ≡ before ++ word ∷ after) × P word
+-- one of the items is such
+abbrev pub HasOne : {A : Type 0} → (A → Type 0) → List A → Type 0
+HasOne {A} P items = (before : List A) × (item : A) × (after : List A) × (items ≡ before ++ item ∷ after) × P item
 
 -- no words of the grammar begin with this one
 abbrev pub IsNoName : {X : Type 0} → (X → List (List ℕ) → Type 0) → List ℕ → Type 0
@@ -21,13 +24,24 @@ IsNoName {X} IsForm name = (x : X) (args : List (List ℕ)) → IsForm x (name �
 abbrev pub IsNoCount : {X : Type 0} → (X → List (List ℕ) → Type 0) → List ℕ → ℕ → Type 0
 IsNoCount {X} IsForm name n = (x : X) (args : List (List ℕ)) → IsForm x (name ∷ args) → length args ≡ n → ⊥
 
+-- the word is no number from 1 to the limit
+abbrev pub IsNoNumber : ℕ → List ℕ → Type 0
+IsNoNumber limit word = (n : ℕ) → 1 ≤ n → n ≤ limit → word ≢ decimal n
+
+-- the words after `set` name a setting, and the one word behind it is not what that setting has
+pub data HasBadNumber : List (List ℕ) → Type 0 where
+  case : (word : List ℕ) → ((c : Case) → IsCaseWord c word → ⊥) → HasBadNumber (codes "case" ∷ word ∷ [])
+  queue : (word : List ℕ) → IsNoNumber 65536 word → HasBadNumber (codes "queue" ∷ word ∷ [])
+  places : (word : List ℕ) → IsNoNumber 65536 word → HasBadNumber (codes "places" ∷ word ∷ [])
+  workers : (word : List ℕ) → IsNoNumber 16 word → HasBadNumber (codes "workers" ∷ word ∷ [])
+
 -- what a cause says of the words after `set` or a caller
 abbrev pub HoldsOfWords : {X : Type 0} → (X → List (List ℕ) → Type 0) → List (List ℕ) → Cause → Type 0
 HoldsOfWords IsForm [] cause = cause ≡ WrongCount
 HoldsOfWords IsForm (name ∷ args) UnknownWord = IsNoName IsForm name
 HoldsOfWords IsForm (name ∷ args) WrongCount = IsNoCount IsForm name (length args) × (IsNoName IsForm name → ⊥)
-HoldsOfWords IsForm (name ∷ args) (BadPath refusal) = HasWord (λ word. path_of word ≡ Err refusal) args
-HoldsOfWords IsForm (name ∷ args) TooLarge = HasWord (λ word. 1048576 < length word) args
+HoldsOfWords IsForm (name ∷ args) (BadPath refusal) = HasOne (λ word. path_of word ≡ Err refusal) args
+HoldsOfWords IsForm (name ∷ args) TooLarge = HasOne (λ word. 1048576 < length word) args
 HoldsOfWords IsForm (name ∷ args) _ = ⊥
 
 -- what stands between the spaces of a line
@@ -36,9 +50,11 @@ parts_of text = slice_split (λ b. b == 32) text
 
 -- what a cause says of a line that stands after the lines of a script
 pub data Holds (before : Script) (text : List ℕ) : Cause → Type 0 where
-  empty : HasWord (λ part. part ≡ []) (parts_of text) → Holds before text EmptyWord
-  escape : (HasWord (λ part. part ≡ []) (parts_of text) → ⊥) → HasWord (λ part. value_of part ≡ Err BadEscape) (parts_of text) → Holds before text BadEscape
+  empty : HasOne (λ part. part ≡ []) (parts_of text) → Holds before text EmptyWord
+  escape : (HasOne (λ part. part ≡ []) (parts_of text) → ⊥) → HasOne (λ part. value_of part ≡ Err BadEscape) (parts_of text) → Holds before text BadEscape
   caller : (first : List ℕ) (more : List (List ℕ)) → words_of text ≡ Ok (first ∷ more) → first ≢ codes "set" → ((n : ℕ) → n ≤ 15 → first ≢ decimal n) → Holds before text BadCaller
   late : (more : List (List ℕ)) → words_of text ≡ Ok (codes "set" ∷ more) → before.lines ≢ [] → Holds before text LateSetting
+  number : (more : List (List ℕ)) → words_of text ≡ Ok (codes "set" ∷ more) → before.lines ≡ [] → HasBadNumber more → Holds before text BadNumber
+  repeated : (more : List (List ℕ)) (o : Opening) → words_of text ≡ Ok (codes "set" ∷ more) → before.lines ≡ [] → IsOpening o more → HasOne (λ earlier. is_same_setting o earlier ≡ true) before.opening → Holds before text Repeated
   setting : (more : List (List ℕ)) (cause : Cause) → words_of text ≡ Ok (codes "set" ∷ more) → before.lines ≡ [] → HoldsOfWords IsOpening more cause → Holds before text cause
   command : (n : ℕ) (more : List (List ℕ)) (cause : Cause) → words_of text ≡ Ok (decimal n ∷ more) → n ≤ 15 → HoldsOfWords IsCommand more cause → Holds before text cause

@@ -13,6 +13,7 @@ use Rattle.script_reader.specs.Reading.{after_line, script_of}
 use Rattle.script_reader.specs.Words.{is_note}
 use Rattle.script_reader.specs.Holds.{Holds}
 use Rattle.script_reader.specs.Grammar.{IsOpening, IsCommand, IsTextOf, FirstBad}
+use Rattle.script_reader.specs.Writing.{text_of}
 
 -- a word is read as a number exactly where it is the number's decimal spelling
 abbrev pub NumbersAreDecimal : Type 0
@@ -45,3 +46,7 @@ TextsAreUnambiguous = (kind : TextKind) (text : List ℕ) → ((s t : Script) �
 -- a cause that is told of a line holds of it, and the line is no note
 abbrev pub CausesHold : Type 0
 CausesHold = (kind : TextKind) (before : Script) (text : List ℕ) (cause : Cause) → after_line kind before text ≡ Err cause → (is_note text ≡ false) × Holds before text cause
+
+-- what is written for a script that has a text is a text of it, of the same kind
+abbrev pub WrittenTextsAreTexts : Type 0
+WrittenTextsAreTexts = (kind : TextKind) (text : List ℕ) (s : Script) → IsTextOf kind text s → IsTextOf kind (text_of s) s

@@ -1,6 +1,6 @@
 -- A text as a script, or the first line that no script has there.
 use Rattle.std.specs.Prelude.{◌≡◌, ℕ, ◌+◌, List, [], ◌∷◌, ◌++◌, length, Bool, true, Option, Some, None, Result, Ok, Err, nat_le, ◌==◌, if◌then◌else◌, codes}
-use Rattle.std.specs.List.{slice_split}
+use Rattle.std.specs.List.{slice_split, list_any}
 use Rattle.std.specs.Str.{bytes_eq}
 use Rattle.script_reader.specs.declared.cause.Cause.{Cause}
 use Rattle.script_reader.specs.declared.cause.Cause.TheVariants as causes
@@ -17,6 +17,8 @@ use Rattle.script_reader.specs.declared.script.Script.{Script}
 use Rattle.script_reader.specs.Gives.{◌>>=◌, Fails}
 use Rattle.script_reader.specs.Numbers.{number_of}
 use Rattle.script_reader.specs.Words.{is_note, words_of}
+use Rattle.world_model.specs.Defaults.{default_settings}
+use Rattle.script_reader.specs.Set.{with_set, is_same_setting}
 use Rattle.script_reader.specs.Forms.{opening_of, command_of}
 
 -- whether a text of this kind may have the command: a replay may have every command
@@ -25,15 +27,15 @@ is_in kinds.Replay command = true
 
 -- the script before its first line
 abbrev pub no_lines : Script
-no_lines = record { opening = []; lines = [] }
+no_lines = record { settings = default_settings; opening = []; lines = [] }
 
 -- the script with one more opening line
 abbrev pub with_opening : Script → Opening → Script
-with_opening before opening = record { opening = before.opening ++ opening ∷ []; lines = before.lines }
+with_opening before opening = record { settings = with_set before.settings opening; opening = before.opening ++ opening ∷ []; lines = before.lines }
 
 -- the script with one more command line
 abbrev pub with_line : Script → Line → Script
-with_line before line = record { opening = before.opening; lines = before.lines ++ line ∷ [] }
+with_line before line = record { settings = before.settings; opening = before.opening; lines = before.lines ++ line ∷ [] }
 
 -- the caller with this number, from 0 to 15
 abbrev pub caller_from : Option ℕ → Result ℕ Cause
@@ -43,7 +45,8 @@ caller_from (Some n) = if nat_le n 15 then Ok n else Err causes.BadCaller
 -- the words after `set`, where no command line came before
 abbrev pub with_setting : Script → List (List ℕ) → Result Script Cause
 with_setting before [] = Err causes.WrongCount
-with_setting before (word ∷ args) = opening_of word args >>= λ opening. Ok (with_opening before opening)
+with_setting before (word ∷ args) =
+    opening_of word args >>= λ opening. if list_any (is_same_setting opening) before.opening then Err causes.Repeated else Ok (with_opening before opening)
 
 -- the words after the number of a caller
 abbrev pub with_command : TextKind → Script → ℕ → List (List ℕ) → Result Script Cause

@@ -11,7 +11,7 @@ use vfs_path::PathError;
 ///
 /// Where several hold, the first of these is told: `NoLineEnd`, `EmptyWord`, `BadEscape`,
 /// `BadCaller`, `LateSetting`, `WrongCount` for a missing second word, `UnknownWord`, `WrongCount`,
-/// and then what the words after the second say, from left to right.
+/// then what the words after the second say, from left to right, and `Repeated`.
 #[derive(Clone, Copy, Debug, PartialEq, Eq)]
 pub enum Cause {
     /// The text does not end with LF, and this is what stands after the last LF.
@@ -24,6 +24,11 @@ pub enum Cause {
     UnknownWord,
     /// The first word is neither `set` nor a number from 0 to 15.
     BadCaller,
+    /// The number of a setting is spelled otherwise or out of its limits, or the case is no word for
+    /// one.
+    BadNumber,
+    /// The same setting stands on an earlier line.
+    Repeated,
     /// The first word is `set`, and a command line came before.
     LateSetting,
     /// The line has no second word, or more or fewer words than its form.
@@ -45,6 +50,8 @@ impl Cause {
             Cause::EmptyWord => 3,
             Cause::UnknownWord => 4,
             Cause::BadCaller => 5,
+            Cause::BadNumber => 6,
+            Cause::Repeated => 7,
             Cause::LateSetting => 8,
             Cause::WrongCount => 9,
             Cause::BadPath(_) => 10,

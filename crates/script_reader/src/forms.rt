@@ -1,12 +1,15 @@
 //! The forms of lines.
 
 ghost use Rattle.std.specs.Prelude.{◌≡◌};
+ghost use Rattle.script_reader.specs.Numbers.{number_of};
 ghost use Rattle.script_reader.specs.Gives.{Gives};
-ghost use Rattle.script_reader.specs.Forms.{path_from, content_from, file_from, no_more, one_path, two_paths, one_file, opening_of, plain_command_of, path_command_of, command_of};
+ghost use Rattle.script_reader.specs.Forms.{path_from, content_from, file_from, within, case_from, no_more, one_path, two_paths, one_file, one_number, one_case, opening_of, plain_command_of, path_command_of, command_of};
 
 use crate::cause::{Cause, LineError};
+use crate::numbers::number_of;
 use crate::script::{Command, Opening};
 use crate::words::Word;
+use case_order::Case;
 use merkle_hash::Bytes;
 use std::alloc::Global;
 use vfs_path::{Path, PathError};
@@ -41,6 +44,25 @@ fn file_from(alloc: Global, word: &[u8], bytes: &[u8]) -> Result<(Path, Bytes), 
     let path = path_from(alloc, word)?;
     let content = content_from(alloc, bytes)?;
     Ok((path, content))
+}
+
+fn number_from(limit: u64, word: &[u8]) -> Result<u64, LineError>
+    ensures { Gives result (within limit (number_of word.now)) }
+{
+    match number_of(word) {
+        Some(number) if 1 <= number && number <= limit => Ok(number),
+        _ => Err(LineError::Bad(Cause::BadNumber)),
+    }
+}
+
+fn case_from(word: &[u8]) -> Result<Case, LineError>
+    ensures { Gives result (case_from word.now) }
+{
+    if word == b"sensitive".as_slice() {
+        Ok(Case::Sensitive)
+    } else {
+        Err(LineError::Bad(Cause::BadNumber))
+    }
 }
 
 fn no_more(args: &[Word]) -> Result<(), LineError>
@@ -86,11 +108,42 @@ fn one_file(alloc: Global, args: &[Word]) -> Result<(Path, Bytes), LineError>
     }
 }
 
+/// A number from 1 to the limit.
+fn one_number(limit: u64, args: &[Word]) -> Result<u64, LineError>
+    ensures { Gives result (one_number limit args.now) }
+{
+    match args {
+        [word] => number_from(limit, word.as_slice()),
+        _ => Err(LineError::Bad(Cause::WrongCount)),
+    }
+}
+
+fn one_case(args: &[Word]) -> Result<Case, LineError>
+    ensures { Gives result (one_case args.now) }
+{
+    match args {
+        [word] => case_from(word.as_slice()),
+        _ => Err(LineError::Bad(Cause::WrongCount)),
+    }
+}
+
 /// The opening line of a word after `set` and the words after it.
 #[tactic(auto, unfolding(crate::specs::Forms::opening_of))]
 pub(crate) fn opening_of(alloc: Global, word: &[u8], args: &[Word]) -> Result<Opening, LineError>
     ensures { Gives result (opening_of word.now args.now) }
 {
+    if word == b"case".as_slice() {
+        return Ok(Opening::Case(one_case(args)?));
+    }
+    if word == b"queue".as_slice() {
+        return Ok(Opening::Queue(one_number(65_536, args)?));
+    }
+    if word == b"places".as_slice() {
+        return Ok(Opening::Places(one_number(65_536, args)?));
+    }
+    if word == b"workers".as_slice() {
+        return Ok(Opening::Workers(one_number(16, args)?));
+    }
     if word == b"dir".as_slice() {
         return Ok(Opening::Dir(one_path(alloc, args)?));
     }
@@ -154,6 +207,10 @@ fn path_command_of(alloc: Global, word: &[u8], args: &[Word]) -> Result<Command,
 fn plain_command_of(word: &[u8], args: &[Word]) -> Result<Command, LineError>
     ensures { Gives result (plain_command_of word.now args.now) }
 {
+    if word == b"lose".as_slice() {
+        no_more(args)?;
+        return Ok(Command::Lose);
+    }
     if word == b"deliver".as_slice() {
         no_more(args)?;
         return Ok(Command::Deliver);
@@ -169,6 +226,10 @@ fn plain_command_of(word: &[u8], args: &[Word]) -> Result<Command, LineError>
     if word == b"publish".as_slice() {
         no_more(args)?;
         return Ok(Command::Publish);
+    }
+    if word == b"abandon".as_slice() {
+        no_more(args)?;
+        return Ok(Command::Abandon);
     }
     Err(LineError::Bad(Cause::UnknownWord))
 }

@@ -1,6 +1,6 @@
 //! Laws of scripts, which are about texts alone.
 
-ghost use Rattle.script_reader.specs.Laws.{NumbersAreDecimal, OpeningsAreRead, CommandsAreRead, TextsAreRead, FaultsAreFirst, TextsAreDecided, TextsAreUnambiguous, CausesHold};
+ghost use Rattle.script_reader.specs.Laws.{NumbersAreDecimal, OpeningsAreRead, CommandsAreRead, TextsAreRead, FaultsAreFirst, TextsAreDecided, TextsAreUnambiguous, CausesHold, WrittenTextsAreTexts};
 
 /// A word is read as a number exactly where it is the number's decimal spelling.
 pub fn numbers_are_decimal()
@@ -36,4 +36,9 @@ pub fn texts_are_unambiguous()
 /// A cause that is told of a line holds of it, in the words of the grammar.
 pub fn causes_hold()
     ensures { CausesHold }
+{}
+
+/// What is written for a script is a text of it.
+pub fn written_texts_are_texts()
+    ensures { WrittenTextsAreTexts }
 {}

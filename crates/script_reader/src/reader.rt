@@ -1,20 +1,24 @@
 //! Reading a script.
 
 ghost use Rattle.std.specs.Prelude.{◌≡◌, IfOk, IfErr};
+ghost use Rattle.std.specs.List.{list_any};
 ghost use Rattle.script_reader.specs.declared.script.Script.{Script};
 ghost use Rattle.script_reader.specs.declared.cause.BadLine.{BadLine};
 ghost use Rattle.script_reader.specs.Gives.{Gives};
+ghost use Rattle.script_reader.specs.Set.{with_set, is_same_setting};
 ghost use Rattle.script_reader.specs.Numbers.{number_of};
 ghost use Rattle.script_reader.specs.Reading.{is_in, Adds, Reads, caller_from, with_setting, with_command, with_words, after_line, script_of};
 ghost use Rattle.script_reader.specs.Grammar.{IsTextOf, FirstBad};
 ghost use Rattle.script_reader.specs.Results.{IfBad, IsScriptOrNoMemory, IsBadOrNoMemory};
+ghost use Rattle.script_reader.specs.Writing.{HasText};
 
 use crate::cause::{BadLine, Cause, LineError, ScriptError};
 use crate::forms::{command_of, opening_of};
 use crate::numbers::number_of;
-use crate::script::{Command, Line, Lines, Openings, Script, TextKind};
+use crate::script::{Command, Line, Lines, Opening, Openings, Script, TextKind};
 use crate::words::{Word, cut, is_note, words_of};
 use std::alloc::Global;
+use world_model::Settings;
 
 fn caller_of(word: &Word) -> Result<u64, LineError>
     ensures { Gives result (caller_from (number_of word.now)) }
@@ -34,6 +38,56 @@ fn is_in(kind: TextKind, _command: &Command) -> bool
     }
 }
 
+/// The settings, with what the opening line sets.
+fn with_set(settings: Settings, opening: &Opening) -> Settings
+    ensures { result ≡ with_set settings opening.now }
+{
+    match opening {
+        Opening::Case(case) => Settings {
+            case: *case,
+            ..settings
+        },
+        Opening::Queue(queue) => Settings {
+            queue: *queue,
+            ..settings
+        },
+        Opening::Places(places) => Settings {
+            places: *places,
+            ..settings
+        },
+        Opening::Workers(workers) => Settings {
+            workers: *workers,
+            ..settings
+        },
+        Opening::Dir(_) | Opening::File(_, _) => settings,
+    }
+}
+
+/// Whether both lines are the same setting.
+fn is_same_setting(opening: &Opening, other: &Opening) -> bool
+    ensures { result ≡ is_same_setting opening.now other.now }
+{
+    matches!(
+        (opening, other),
+        (Opening::Case(_), Opening::Case(_))
+            | (Opening::Queue(_), Opening::Queue(_))
+            | (Opening::Places(_), Opening::Places(_))
+            | (Opening::Workers(_), Opening::Workers(_))
+    )
+}
+
+/// Whether the line is a setting that stands among the earlier ones. Only a setting looks at them, so
+/// that a script of many files is read in a time that grows with its length.
+fn is_repeated(opening: &Opening, earlier: &[Opening]) -> bool
+    ensures { result ≡ list_any (is_same_setting opening.now) earlier.now }
+{
+    match opening {
+        Opening::Dir(_) => false,
+        Opening::File(_, _) => false,
+        _ => earlier.iter().any(|other| is_same_setting(opening, other)),
+    }
+}
+
 fn add_setting(alloc: Global, script: &mut Script, words: &[Word]) -> Result<(), LineError>
     ensures { Adds result script.new (with_setting script.old words.now) }
 {
@@ -41,7 +95,12 @@ fn add_setting(alloc: Global, script: &mut Script, words: &[Word]) -> Result<(),
         return Err(LineError::Bad(Cause::WrongCount));
     };
     let opening = opening_of(alloc, word.as_slice(), args)?;
+    if is_repeated(&opening, script.opening.as_slice()) {
+        return Err(LineError::Bad(Cause::Repeated));
+    }
+    let settings = with_set(script.settings, &opening);
     script.opening.push(opening)?;
+    script.settings = settings;
     Ok(())
 }
 
@@ -107,6 +166,7 @@ fn read_lines(alloc: Global, kind: TextKind, text: &[u8]) -> Result<Script, Scri
     ensures { Reads result (script_of kind text.now) }
 {
     let mut script = Script {
+        settings: Settings::default(),
         opening: Openings::from_vec(Vec::new(alloc)),
         lines: Lines::from_vec(Vec::new(alloc)),
     };
@@ -147,6 +207,9 @@ pub fn read_script(alloc: Global, text: &[u8]) -> Result<Script, ScriptError>
     // What is read is the script of the text, and what is told is its first bad line.
     ensures found { IfOk result (λ s. IsTextOf TextKind.Replay text.now s) }
     ensures bad { IfErr result (λ e. IfBad e (FirstBad TextKind.Replay text.now)) }
+
+    // What is read can be written.
+    ensures writable { IfOk result HasText }
 
     // The text of a script is read, and a bad line is told, unless memory runs out.
     ensures read { (s : Script) → IsTextOf TextKind.Replay text.now s → IsScriptOrNoMemory result s }

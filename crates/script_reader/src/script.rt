@@ -2,11 +2,12 @@
 
 ghost use Rattle.std.specs.Prelude.{◌≡◌, [], ◌∷◌, ◌++◌, ◌==◌, length, OnOk, OnErr};
 
+use case_order::Case;
 use merkle_hash::Bytes;
 use std::alloc::AllocError;
 use std::marker::Model;
 use vfs_path::Path;
-use world_model::Edit;
+use world_model::{Edit, Settings};
 
 /// What a text is read as, which decides what commands it may have.
 #[derive(Clone, Copy, Debug, PartialEq, Eq)]
@@ -15,9 +16,18 @@ pub enum TextKind {
     Replay,
 }
 
-/// What stands in the tree before the first command. No event tells of it.
+/// What comes before the first command: settings of the whole run, each at most once, and what stands
+/// in the tree, which no event tells of.
 #[derive(Debug, Drop)]
 pub enum Opening {
+    /// `set case sensitive`: how names are compared.
+    Case(Case),
+    /// `set queue N`: how many events the queue holds, 1 to 65,536.
+    Queue(u64),
+    /// `set places N`: how many calls of a race get a place, 1 to 65,536. A replay has no use for it.
+    Places(u64),
+    /// `set workers N`: on how many threads contents are hashed, 1 to 16.
+    Workers(u64),
     /// `set dir PATH`: a directory.
     Dir(Path),
     /// `set file PATH` or `set file PATH BYTES`: a file, of at most 1,048,576 bytes; empty where
@@ -34,6 +44,8 @@ pub enum Command {
     Edit(Edit),
     /// `event PATH`: an event is told that no edit made.
     Event(Path),
+    /// `lose`: what is pending is lost, and the mark that events were lost is set.
+    Lose,
     /// `deliver`: the next of what is pending is delivered.
     Deliver,
     /// `settle`: all that is pending is delivered.
@@ -44,6 +56,8 @@ pub enum Command {
     Read,
     /// `publish`: the caller's scan ends, and what it saw is stored where it may be.
     Publish,
+    /// `abandon`: the caller's scan ends, and what it saw is dropped.
+    Abandon,
     /// `scan PATH`: a whole scan of the path, from its begin to its publication.
     Scan(Path),
     /// `find PATH`: what is retained of the path.
@@ -153,6 +167,8 @@ impl Lines {
 /// A script.
 #[derive(Debug, Drop)]
 pub struct Script {
+    /// What the opening lines set, and what holds where they set nothing.
+    pub settings: Settings,
     /// The opening lines, in order. In the text they stand before the first command line.
     pub opening: Openings,
     /// The command lines, in order.

@@ -1,5 +1,7 @@
 use super::*;
+use case_order::{Case, NoMemory};
 use std::alloc::{AllocError, Global};
+use std::process::Abort;
 use std::test::Fail;
 use vfs_path::{Path, PathError};
 use world_model::Edit;
@@ -30,11 +32,13 @@ fn is_command(alloc: Global, command: &Command, name: &str, word: &str, second: 
     match command {
         Command::Edit(edit) => is_edit(alloc, edit, name, word, second),
         Command::Event(path) => name == "event" && is_path(alloc, path, word),
+        Command::Lose => name == "lose",
         Command::Deliver => name == "deliver",
         Command::Settle => name == "settle",
         Command::Begin(path) => name == "begin" && is_path(alloc, path, word),
         Command::Read => name == "read",
         Command::Publish => name == "publish",
+        Command::Abandon => name == "abandon",
         Command::Scan(path) => name == "scan" && is_path(alloc, path, word),
         Command::Find(path) => name == "find" && is_path(alloc, path, word),
         Command::KindOf(path) => name == "kind" && is_path(alloc, path, word),
@@ -68,11 +72,13 @@ fn reads_each_command(rt: HostRuntime) {
         ("2 remove /d/e\n", 2, "remove", "/d/e", ""),
         ("3 move /a /b/c\n", 3, "move", "/a", "/b/c"),
         ("4 event /\n", 4, "event", "/", ""),
+        ("14 lose\n", 14, "lose", "", ""),
         ("5 deliver\n", 5, "deliver", "", ""),
         ("6 settle\n", 6, "settle", "", ""),
         ("7 begin /\n", 7, "begin", "/", ""),
         ("8 read\n", 8, "read", "", ""),
         ("9 publish\n", 9, "publish", "", ""),
+        ("0 abandon\n", 0, "abandon", "", ""),
         ("10 scan /a\n", 10, "scan", "/a", ""),
         ("11 find /a\n", 11, "find", "/a", ""),
         ("12 kind /a\n", 12, "kind", "/a", ""),
@@ -113,6 +119,10 @@ fn reads_escapes_and_notes(rt: HostRuntime) {
 
 fn is_opening(alloc: Global, opening: &Opening, name: &str, word: &str, content: &str) -> bool {
     match opening {
+        Opening::Case(case) => name == "case" && *case == Case::Sensitive,
+        Opening::Queue(_) => name == "queue",
+        Opening::Places(_) => name == "places",
+        Opening::Workers(_) => name == "workers",
         Opening::Dir(path) => name == "dir" && is_path(alloc, path, word),
         Opening::File(path, bytes) => {
             name == "file" && is_path(alloc, path, word) && bytes.as_slice() == content.as_bytes()
@@ -124,12 +134,14 @@ fn is_opening(alloc: Global, opening: &Opening, name: &str, word: &str, content:
 fn reads_opening_lines(rt: HostRuntime) -> Result<(), Fail> {
     let alloc = rt.alloc();
     let text =
-        "# a note\nset dir /a%20b\n\nset file /f\ns%65t file / x%20y\nset dir /\n#\n0 read\n# set\n3 settle\n";
+        "# a note\nset dir /a%20b\nset queue 1\n\nset file /f\ns%65t file / x%20y\nset workers 16\nset dir /\n#\n0 read\n# set\n3 settle\n";
     let script = read_script(alloc, text.as_bytes()).ok().ok_or("a script")?;
     let table = [
         ("dir", "/a b", ""),
+        ("queue", "", ""),
         ("file", "/f", ""),
         ("file", "/", "x y"),
+        ("workers", "", ""),
         ("dir", "/", ""),
     ];
     assert_eq!(rt; script.lines.as_slice().len(), 2);
@@ -143,16 +155,60 @@ fn reads_opening_lines(rt: HostRuntime) -> Result<(), Fail> {
     Ok(())
 }
 
+#[test]
+fn keeps_what_is_set(rt: HostRuntime) -> Result<(), Fail> {
+    let alloc = rt.alloc();
+    let table = [
+        ("", 1024, 65_536, 1),
+        ("set case sensitive\n", 1024, 65_536, 1),
+        ("set queue 1\n", 1, 65_536, 1),
+        ("set queue 65536\n", 65_536, 65_536, 1),
+        ("set places 1\n0 read\n", 1024, 1, 1),
+        ("set places 65536\n", 1024, 65_536, 1),
+        ("set workers 16\n", 1024, 65_536, 16),
+        (
+            "set dir /d\nset workers 2\nset file /f\nset case s%65nsitive\nset queue 3\nset places 4\n",
+            3,
+            4,
+            2,
+        ),
+    ];
+    for (text, queue, places, workers) in table {
+        let script = read_script(alloc, text.as_bytes()).ok().ok_or("a script")?;
+        let wanted = Settings {
+            case: Case::Sensitive,
+            queue,
+            places,
+            workers,
+        };
+        assert_eq!(rt; script.settings, wanted, "at {text}");
+    }
+    Ok(())
+}
+
 /// The number of the first bad line and its cause; nothing where the text is a script.
-fn first_bad(alloc: Global, text: &str) -> Option<(u64, Cause)> {
-    match read_script(alloc, text.as_bytes()) {
-        Err(ScriptError::Bad(bad)) => Some((bad.line, bad.cause)),
-        _ => None,
+fn first_bad(alloc: Global, text: &[u8]) -> Result<Option<(u64, Cause)>, Fail> {
+    match read_script(alloc, text) {
+        Ok(_) => Ok(None),
+        Err(ScriptError::Bad(bad)) => Ok(Some((bad.line, bad.cause))),
+        Err(ScriptError::NoMemory) => Err(Fail::from(NoMemory)),
     }
 }
 
+/// Looks for the first bad line of each text.
+fn assert_faults(
+    rt: &impl Abort,
+    alloc: Global,
+    table: &[(&str, Option<(u64, Cause)>)],
+) -> Result<(), Fail> {
+    for (text, wanted) in table {
+        assert_eq!(rt; first_bad(alloc, text.as_bytes())?, *wanted, "at {text}");
+    }
+    Ok(())
+}
+
 #[test]
-fn tells_each_cause(rt: HostRuntime) {
+fn tells_each_cause(rt: HostRuntime) -> Result<(), Fail> {
     let alloc = rt.alloc();
     let table = [
         ("0 read", Cause::NoLineEnd),
@@ -165,7 +221,9 @@ fn tells_each_cause(rt: HostRuntime) {
         (" \n", Cause::EmptyWord),
         ("0 fnd /a\n", Cause::UnknownWord),
         ("0 read\r\n", Cause::UnknownWord),
-        ("set queue 4\n", Cause::UnknownWord),
+        ("0 print rel:/a\n", Cause::UnknownWord),
+        ("0 build rel:/a\n", Cause::UnknownWord),
+        ("set watch /a\n", Cause::UnknownWord),
         ("set read\n", Cause::UnknownWord),
         ("0 dir /a\n", Cause::UnknownWord),
         ("16 read\n", Cause::BadCaller),
@@ -173,7 +231,22 @@ fn tells_each_cause(rt: HostRuntime) {
         ("+1 read\n", Cause::BadCaller),
         ("4294967296 read\n", Cause::BadCaller),
         ("%23 read\n", Cause::BadCaller),
+        ("set queue 0\n", Cause::BadNumber),
+        ("set queue 65537\n", Cause::BadNumber),
+        ("set queue 01\n", Cause::BadNumber),
+        ("set queue x\n", Cause::BadNumber),
+        ("set places 0\n", Cause::BadNumber),
+        ("set places 65537\n", Cause::BadNumber),
+        ("set workers 0\n", Cause::BadNumber),
+        ("set workers 17\n", Cause::BadNumber),
+        ("set workers 4294967297\n", Cause::BadNumber),
+        ("set case Sensitive\n", Cause::BadNumber),
+        ("set case insensitive\n", Cause::BadNumber),
         ("0\n", Cause::WrongCount),
+        ("set queue\n", Cause::WrongCount),
+        ("set case sensitive x\n", Cause::WrongCount),
+        ("0 lose /a\n", Cause::WrongCount),
+        ("0 abandon 0\n", Cause::WrongCount),
         ("set\n", Cause::WrongCount),
         ("set dir\n", Cause::WrongCount),
         ("set file /a b c\n", Cause::WrongCount),
@@ -185,12 +258,14 @@ fn tells_each_cause(rt: HostRuntime) {
         ("0 begin\n", Cause::WrongCount),
     ];
     for (text, cause) in table {
-        assert_eq!(rt; first_bad(alloc, text), Some((1, cause)), "at {text}");
+        let bad = first_bad(alloc, text.as_bytes())?;
+        assert_eq!(rt; bad, Some((1, cause)), "at {text}");
     }
+    Ok(())
 }
 
 #[test]
-fn tells_what_is_wrong_with_a_path(rt: HostRuntime) {
+fn tells_what_is_wrong_with_a_path(rt: HostRuntime) -> Result<(), Fail> {
     let alloc = rt.alloc();
     let table = [
         ("0 begin a\n", PathError::NotAbsolute),
@@ -206,13 +281,14 @@ fn tells_what_is_wrong_with_a_path(rt: HostRuntime) {
     ];
     for (text, refusal) in table {
         let wanted = Some((1, Cause::BadPath(refusal)));
-        assert_eq!(rt; first_bad(alloc, text), wanted, "at {text}");
+        let bad = first_bad(alloc, text.as_bytes())?;
+        assert_eq!(rt; bad, wanted, "at {text}");
     }
+    Ok(())
 }
 
 #[test]
-fn tells_the_first_cause_of_the_first_line(rt: HostRuntime) {
-    let alloc = rt.alloc();
+fn tells_the_first_cause_of_the_first_line(rt: HostRuntime) -> Result<(), Fail> {
     let table = [
         ("", None),
         ("\n", None),
@@ -231,15 +307,67 @@ fn tells_the_first_cause_of_the_first_line(rt: HostRuntime) {
         ("0 read\nset fnd\n", Some((2, Cause::LateSetting))),
         ("0 read\nset dir a b\n", Some((2, Cause::LateSetting))),
         ("0 read\n\nset dir /a\n", Some((3, Cause::LateSetting))),
+        ("0 read\nset queue 0\n", Some((2, Cause::LateSetting))),
+        (
+            "set queue 4\n0 read\nset queue 4\n",
+            Some((3, Cause::LateSetting)),
+        ),
         ("set dir /a\nset fnd\n", Some((2, Cause::UnknownWord))),
         ("0 fnd a b\n", Some((1, Cause::UnknownWord))),
         ("set fnd a b\n", Some((1, Cause::UnknownWord))),
         ("0 find a b\n", Some((1, Cause::WrongCount))),
         ("0 write a b c\n", Some((1, Cause::WrongCount))),
+        ("set queue 0 0\n", Some((1, Cause::WrongCount))),
+        ("set queue 4\nset queue\n", Some((2, Cause::WrongCount))),
+        ("set queue 4\nset queue 0\n", Some((2, Cause::BadNumber))),
+        (
+            "set case sensitive\nset case x\n",
+            Some((2, Cause::BadNumber)),
+        ),
+        // A setting stands on an earlier line, though others are between.
+        ("set queue 4\nset queue 4\n", Some((2, Cause::Repeated))),
+        (
+            "set places 4\n#\nset dir /a\nset places 5\n",
+            Some((4, Cause::Repeated)),
+        ),
+        (
+            "set workers 1\nset queue 1\nset workers 1\n",
+            Some((3, Cause::Repeated)),
+        ),
+        (
+            "set case sensitive\nset case sensitive\n",
+            Some((2, Cause::Repeated)),
+        ),
+        // Other lines may stand twice, and one number on two settings.
+        (
+            "set dir /a\nset dir /a\nset queue 4\nset places 4\nset workers 4\n",
+            None,
+        ),
     ];
-    for (text, wanted) in table {
-        assert_eq!(rt; first_bad(alloc, text), wanted, "at {text}");
+    assert_faults(&rt, rt.alloc(), &table)
+}
+
+#[test]
+fn reads_a_front_of_whole_lines(rt: HostRuntime) -> Result<(), Fail> {
+    let text =
+        b"set queue 4\n# a note\nset file /f a%20b\n\n0 write /%61 %00\n15 move /a /b\n0 lose\n1 abandon\n".as_slice();
+    let mut ends = 0u64;
+    for (len, byte) in text.iter().enumerate() {
+        let front = &text[..len];
+        let is_whole = len == 0 || front[len - 1] == b'\n';
+        let wanted = if is_whole {
+            None
+        } else {
+            Some((ends + 1, Cause::NoLineEnd))
+        };
+        assert_eq!(rt; first_bad(rt.alloc(), front)?, wanted, "at {len}");
+        if *byte == b'\n' {
+            ends += 1;
+        }
     }
+    assert_eq!(rt; first_bad(rt.alloc(), text)?, None);
+    assert_eq!(rt; ends, 8);
+    Ok(())
 }
 
 /// A text of a front, a piece so many times over, and LF.
@@ -253,17 +381,10 @@ fn with_many(alloc: Global, front: &str, piece: &str, count: usize) -> Result<Ve
 }
 
 /// The cause that is told of such a text.
-fn limit(
-    alloc: Global,
-    front: &str,
-    piece: &str,
-    count: usize,
-) -> Result<Option<Cause>, AllocError> {
+fn limit(alloc: Global, front: &str, piece: &str, count: usize) -> Result<Option<Cause>, Fail> {
     let text = with_many(alloc, front, piece, count)?;
-    match read_script(alloc, text.as_slice()) {
-        Err(ScriptError::Bad(bad)) => Ok(Some(bad.cause)),
-        _ => Ok(None),
-    }
+    let bad = first_bad(alloc, text.as_slice())?;
+    Ok(bad.map(|(_, cause)| cause))
 }
 
 #[test]
@@ -283,6 +404,7 @@ fn keeps_to_the_limits(rt: HostRuntime) -> Result<(), Fail> {
         ("0 write /a ", "x", 1_048_576, None),
         ("0 write /a ", "%41", 1_048_576, None),
         ("set file /a ", "x", 1_048_577, too_large),
+        ("3 write /a ", "%0a", 1_048_577, too_large),
         ("0 write a ", "x", 1_048_577, not_absolute),
     ];
     for (front, piece, count, wanted) in table {
@@ -303,6 +425,8 @@ fn numbers_causes(rt: HostRuntime) {
         (Cause::EmptyWord, 3),
         (Cause::UnknownWord, 4),
         (Cause::BadCaller, 5),
+        (Cause::BadNumber, 6),
+        (Cause::Repeated, 7),
         (Cause::LateSetting, 8),
         (Cause::WrongCount, 9),
         (Cause::BadPath(PathError::TooDeep), 10),
@@ -310,5 +434,75 @@ fn numbers_causes(rt: HostRuntime) {
     ];
     for (cause, number) in table {
         assert_eq!(rt; cause.number(), number);
+    }
+}
+
+/// Whether the text is that of a script, for which this is written.
+fn is_written(alloc: Global, text: &str, wanted: &str) -> bool {
+    let Ok(script) = read_script(alloc, text.as_bytes()) else {
+        return false;
+    };
+    match write_script(alloc, &script) {
+        Ok(written) => written.as_slice() == wanted.as_bytes(),
+        Err(_) => false,
+    }
+}
+
+#[test]
+fn writes_what_it_read(rt: HostRuntime) {
+    let alloc = rt.alloc();
+    let openings = "\
+        set case sensitive\n\
+        set queue 65536\n\
+        set places 7\n\
+        set workers 16\n\
+        set dir /\n\
+        set file /d/f\n\
+        set file /g xyz\n";
+    let commands = "\
+        0 write /f abc\n\
+        1 mkdir /d\n\
+        2 remove /d/e\n\
+        3 move /a /b/c\n\
+        4 event /\n\
+        5 lose\n\
+        6 deliver\n\
+        7 settle\n\
+        8 begin /\n\
+        9 read\n\
+        10 publish\n\
+        11 abandon\n\
+        12 scan /a\n\
+        13 find /a\n\
+        14 kind /a\n\
+        15 version /a\n";
+    let table = [
+        ("", ""),
+        (openings, openings),
+        (commands, commands),
+        ("0 write /a%20b %00\n", "0 write /a%20b %00\n"),
+        ("0 write /e\n", "0 write /e\n"),
+        // Escapes that need not be there, and digits in upper case.
+        ("0 find /a%2Fb%2f%61\n", "0 find /a/b/a\n"),
+        ("%31%35 kin%64 /%C3%A4\n", "15 kind /%c3%a4\n"),
+        ("s%65t queue 1%30\n", "set queue 10\n"),
+        // A byte that stands for itself, and its neighbours that do not.
+        (
+            "0 write /a %20%21%22%23%24%25%26\n",
+            "0 write /a %20!\"#$%25&\n",
+        ),
+        ("0 write /a %7D%7E%7F%80%FF\n", "0 write /a }~%7f%80%ff\n"),
+        ("0 write /a !~\u{7f}\u{1f}\n", "0 write /a !~%7f%1f\n"),
+        ("0 find /ä%25€\n", "0 find /%c3%a4%25%e2%82%ac\n"),
+        // Notes and empty lines go.
+        ("# a note\n\n0 read\n#\n\n1 settle\n", "0 read\n1 settle\n"),
+        (
+            "\n#\nset dir /\n# x\n0 read\n# set\n",
+            "set dir /\n0 read\n",
+        ),
+    ];
+    for (text, wanted) in table {
+        assert!(rt; is_written(alloc, text, wanted), "at {text}");
+        assert!(rt; is_written(alloc, wanted, wanted), "again, at {text}");
     }
 }

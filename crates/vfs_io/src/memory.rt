@@ -1,9 +1,10 @@
 //! A source and a sink in memory. Both fail at the calls that a list names.
 
-ghost use Rattle.std.specs.Prelude.{◌≡◌, ◌↔◌, ◌<◌, ◌≤◌, ◌++◌, [], length, min, take, drop, Some, Contains, IfOk, IsErr, IsOk, OnErr, OnOk};
+ghost use Rattle.std.specs.Prelude.{◌≡◌, ◌↔◌, ◌<◌, ◌≤◌, ◌++◌, [], length, min, take, drop, None, Some, Contains, IfOk, IsErr, IsOk, OnErr, OnOk};
 ghost use Rattle.std.specs.Io.{ReadsAtMost};
 ghost use Rattle.std.specs.Io.KnownBytes.{ReadConsumes};
 ghost use Rattle.vfs_model.specs.Faults.{HasCause, next_count};
+ghost use Rattle.vfs_io.specs.Told.{IsListed};
 ghost use Rattle.vfs_io.specs.Pieces.{IsZeroAtEnd, Puts};
 ghost use Rattle.vfs_io.specs.Streams.{IsNextToFail, after_failure, after_put, after_take};
 
@@ -96,9 +97,7 @@ impl MemSource {
 }
 
 impl Source for MemSource {
-    ghost left = { λ s. Some s.bytes };
-
-    ghost faults = { λ s. s.faults };
+    ghost told = { λ s. record { left = Some s.bytes; takes = None; faults = s.faults } };
 
     fn take(&mut self, buf: &mut [u8]) -> Result<usize, Failed>
         requires { 0 < length buf.old }
@@ -106,6 +105,7 @@ impl Source for MemSource {
         ensures bound { ReadsAtMost result buf.new }
         ensures bytes { ReadConsumes (Some self.old.bytes) (Some self.new.bytes) result buf.new }
         ensures end { IfOk result (IsZeroAtEnd (Some self.old.bytes)) }
+        ensures listed { IsListed None None result (length buf.old) }
         ensures cause { HasCause self.old.faults self.new.faults result }
 
         // Exactly.
@@ -166,14 +166,13 @@ impl MemSink {
 }
 
 impl Sink for MemSink {
-    ghost written = { λ s. Some s.bytes };
-
-    ghost faults = { λ s. s.faults };
+    ghost told = { λ s. record { written = Some s.bytes; puts = None; faults = s.faults } };
 
     /// A call that fails, for want of memory too, writes nothing of the piece.
     fn put(&mut self, piece: &[u8]) -> Result<(), Failed>
         // As every sink.
         ensures bytes { Puts (Some self.old.bytes) (Some self.new.bytes) result piece.now }
+        ensures listed { IsListed None None result piece.now }
         ensures cause { HasCause self.old.faults self.new.faults result }
 
         // Exactly, but for want of memory.

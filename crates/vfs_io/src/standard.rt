@@ -1,9 +1,10 @@
 //! The source over any reader of std, and the sink over any writer.
 
-ghost use Rattle.std.specs.Prelude.{◌≡◌, ◌<◌, [], length, IfOk, IsOk, OnErr, OnOk};
+ghost use Rattle.std.specs.Prelude.{◌≡◌, ◌<◌, [], None, length, IfOk, IsOk, OnErr, OnOk};
 ghost use Rattle.std.specs.Io.{ReadsAtMost};
 ghost use Rattle.std.specs.Io.KnownBytes.{ReadConsumes};
 ghost use Rattle.vfs_model.specs.Faults.{HasCause, next_count};
+ghost use Rattle.vfs_io.specs.Told.{IsListed};
 ghost use Rattle.vfs_io.specs.Pieces.{IsZeroAtEnd, Puts};
 
 use crate::traits::{Failed, Sink, Source};
@@ -35,9 +36,7 @@ impl<R: Read> StdSource<R> {
 }
 
 impl<R: Read> Source for StdSource<R> {
-    ghost left = { λ s. s.bytes };
-
-    ghost faults = { λ s. s.faults };
+    ghost told = { λ s. record { left = s.bytes; takes = None; faults = s.faults } };
 
     /// One read. It is not tried again where the reader was interrupted.
     fn take(&mut self, buf: &mut [u8]) -> Result<usize, Failed>
@@ -46,6 +45,7 @@ impl<R: Read> Source for StdSource<R> {
         ensures bound { ReadsAtMost result buf.new }
         ensures bytes { ReadConsumes self.old.bytes self.new.bytes result buf.new }
         ensures end { IfOk result (IsZeroAtEnd self.old.bytes) }
+        ensures listed { IsListed None None result (length buf.old) }
         ensures cause { HasCause self.old.faults self.new.faults result }
 
         // A fault is counted once, and only where the call failed.
@@ -91,14 +91,13 @@ impl<W: Write> StdSink<W> {
 }
 
 impl<W: Write> Sink for StdSink<W> {
-    ghost written = { λ s. s.bytes };
-
-    ghost faults = { λ s. s.faults };
+    ghost told = { λ s. record { written = s.bytes; puts = None; faults = s.faults } };
 
     /// Writes until the whole piece is taken. An empty piece is `Ok`, with no write.
     fn put(&mut self, piece: &[u8]) -> Result<(), Failed>
         // As every sink.
         ensures bytes { Puts self.old.bytes self.new.bytes result piece.now }
+        ensures listed { IsListed None None result piece.now }
         ensures cause { HasCause self.old.faults self.new.faults result }
 
         // A fault is counted once, and only where the call failed.

@@ -1,9 +1,11 @@
-ghost use Rattle.std.specs.Prelude.{◌≤◌, IfOk};
+ghost use Rattle.std.specs.Prelude.{◌≡◌, ◌≤◌, [], None, Some, IfOk};
+ghost use Rattle.vfs_model.specs.Faults.{next_count};
 
 use super::*;
-use std::alloc::Global;
+use std::alloc::{AllocError, Global};
 use std::io;
 use std::io::{ErrorKind, Read, Write};
+use std::marker::Model;
 use std::process::Abort;
 use std::test::Fail;
 
@@ -181,4 +183,91 @@ fn sinks_over_writers(rt: HostRuntime) -> Result<(), Fail> {
         assert_eq!(rt; written.as_slice(), b"abcd".as_slice());
     }
     Ok(())
+}
+
+/// A source and a sink that list their calls: a source that is at its end, and a sink that keeps each
+/// piece by itself.
+#[derive(Drop)]
+struct Listing {
+    takes: Vec<usize>,
+    pieces: Vec<Piece>,
+    faults: u64,
+}
+
+#[derive(Drop)]
+struct Piece {
+    bytes: Vec<u8>,
+}
+
+impl Model for Piece {
+    ghost use Rattle.std.specs.Prelude.{ℕ, List};
+
+    ghost Value = { List ℕ };
+
+    ghost view = { λ p. p.bytes.items };
+}
+
+impl Listing {
+    fn new(alloc: Global) -> Listing {
+        Listing {
+            takes: Vec::new(alloc),
+            pieces: Vec::new(alloc),
+            faults: 0,
+        }
+    }
+
+    fn fail(&mut self) -> Failed
+        ensures counted { self.new ≡ record self.old { faults = next_count self.old.faults } }
+        ensures later { self.old.faults ≤ self.new.faults }
+    {
+        self.faults = self.faults.saturating_add(1);
+        Failed
+    }
+}
+
+impl Source for Listing {
+    ghost told = { λ s. record { left = Some []; takes = Some s.takes.items; faults = s.faults } };
+
+    fn take(&mut self, buf: &mut [u8]) -> Result<usize, Failed> {
+        match self.takes.push(buf.len()) {
+            Ok(()) => Ok(0),
+            Err(_) => Err(self.fail()),
+        }
+    }
+}
+
+fn copied(alloc: Global, piece: &[u8]) -> Result<Piece, AllocError>
+    ensures { IfOk result (λ copy. copy ≡ piece.now) }
+{
+    Ok(Piece {
+        bytes: piece.to_vec(alloc)?,
+    })
+}
+
+impl Sink for Listing {
+    ghost told = { λ s. record { written = None; puts = Some s.pieces.items; faults = s.faults } };
+
+    fn put(&mut self, piece: &[u8]) -> Result<(), Failed> {
+        let Ok(copy) = copied(*self.pieces.allocator(), piece) else {
+            return Err(self.fail());
+        };
+        match self.pieces.push(copy) {
+            Ok(()) => Ok(()),
+            Err(_) => Err(self.fail()),
+        }
+    }
+}
+
+#[test]
+fn lists_of_calls(rt: HostRuntime) {
+    let mut listing = Listing::new(rt.alloc());
+    takes(&rt, &mut listing, &[Ok(b""), Ok(b"")]);
+    assert_eq!(rt; listing.takes.as_slice(), [3, 3].as_slice());
+    puts(
+        &rt,
+        &mut listing,
+        &[(b"ab", true), (b"", true), (b"c", true)],
+    );
+    let lengths = listing.pieces.as_slice().iter().map(|p| p.bytes.len());
+    assert!(rt; lengths.eq([2, 0, 1]));
 }

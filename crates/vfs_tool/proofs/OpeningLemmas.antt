@@ -2,7 +2,6 @@
 use Rattle.std.proofs.Common.{◌≡◌, List, [], ℕ, Option, Some, None, refl, sym, subst, ◌∙◌}
 use Rattle.std.specs.Prelude.{codes}
 use Rattle.vfs_model.specs.declared.Case.{Case}
-use Rattle.vfs_model.specs.declared.Case.TheVariants.{Sensitive}
 use Rattle.vfs_model.specs.World.{World, IsWorld, IsSameBelow}
 use Rattle.vfs_model.specs.Edit.{Edit, Refusal, refusal, apply}
 use Rattle.vfs_model.specs.State.{Refused}
@@ -12,56 +11,53 @@ use Rattle.world_model.specs.Told.{TreeTold, IsApplied}
 use Rattle.vfs_machine.proofs.EditLemmas.{applied-world}
 use Rattle.script_reader.specs.declared.script.Opening.{Opening}
 use Rattle.vfs_tool.specs.Replies.{reply_text}
-use Rattle.vfs_tool.specs.Report.{opening_edit, opening_reply, opening_refusal, world_unless, printed_opening}
+use Rattle.vfs_tool.specs.Lines.{Printed}
+use Rattle.vfs_tool.specs.Report.{opening_edit, edited_unless, printed_edit, printed_opening}
 use Rattle.vfs_tool.specs.Printing.{IsPrinted, HoldsWorld}
 
--- the text of an opening line and the world after it, by its refusal
-IsOpened : TreeTold → World → Opening → List ℕ → Option Refusal → Type 0
-IsOpened new w o text r = (text ≡ reply_text (opening_reply r)) × HoldsWorld new (world_unless w (opening_edit o) r)
+-- the text is what was printed, and the tree tells the world after it
+IsOpened : Case → TreeTold → List ℕ → Printed World → Type 0
+IsOpened case new text done = (text ≡ done.text) × HoldsWorld case new done.state
 
 -- what was told before an edit that was done is told after it
 still_told : (case : Case) (edit : Edit) (v : World) (k : Option World) → IsApplied case edit (Some v) k → (u : World) × (k ≡ Some u)
 still_told case edit v None done = absurd done
 still_told case edit v (Some u) done = (u, refl)
 
--- the edit was done
-pub open-done : (old new : TreeTold) (o : Opening) (edit : Edit) (text : List ℕ) → edit ≡ opening_edit o → new.case ≡ old.case → IsApplied old.case edit old.content new.content
-    → ((w : World) → old.content ≡ Some w → IsWorld old.case w) → ((w : World) → old.content ≡ Some w → refusal old.case w edit ≡ None) → text ≡ codes "ok"
-    → IsPrinted (HoldsWorld old) (HoldsWorld new) (λ w. printed_opening w o) text
+-- there was no edit
+pub open-none : (case : Case) (told : TreeTold) (o : Opening) (text : List ℕ) → None ≡ opening_edit o → text ≡ codes "ok" → IsPrinted (HoldsWorld case told) (HoldsWorld case told) (λ w. printed_opening case w o) text
 unfolding IsOpened
-open-done old new o edit text is case_is done whole allowed ok = λ w h.
-    let P : Edit → Type 0 = λ e. refusal Sensitive h.content e ≡ None in
-    let here : refusal Sensitive h.content (opening_edit o) ≡ None = subst P is (subst (λ (c : Case). refusal c h.content edit ≡ None) h.case (allowed h.content h.tells)) in
-    let none : opening_refusal w o ≡ None = same-refusal Sensitive w h.content (opening_edit o) h.same ∙ here in
+open-none case told o text is ok = λ w h. subst (λ (k : Option Edit). IsOpened case told text (printed_edit case w k)) is (ok, h)
+
+-- the edit was done
+pub open-done : (case : Case) (old new : TreeTold) (o : Opening) (edit : Edit) (text : List ℕ) → Some edit ≡ opening_edit o → new.case ≡ old.case → IsApplied old.case edit old.content new.content
+    → ((w : World) → old.content ≡ Some w → IsWorld old.case w) → ((w : World) → old.content ≡ Some w → refusal old.case w edit ≡ None) → text ≡ codes "ok"
+    → IsPrinted (HoldsWorld case old) (HoldsWorld case new) (λ w. printed_opening case w o) text
+unfolding IsOpened
+open-done case old new o edit text is kept done whole allowed ok = λ w h.
+    let here : refusal case h.content edit ≡ None = subst (λ (c : Case). refusal c h.content edit ≡ None) h.under (allowed h.content h.tells) in
+    let none : refusal case w edit ≡ None = same-refusal case w h.content edit h.same ∙ here in
     let told = subst (λ (k : Option World). IsApplied old.case edit k new.content) h.tells done in
     let after = still_told old.case edit h.content new.content told in
-    let same : (z : World) → old.content ≡ Some z → IsSameBelow old.case w [] z [] = λ z e. subst (λ (c : Case). IsSameBelow c w [] z []) (sym h.case) (subst (λ (y : World). IsSameBelow Sensitive w [] y []) (some-is h.content z (sym h.tells ∙ e)) h.same) in
+    let same : (z : World) → old.content ≡ Some z → IsSameBelow old.case w [] z [] =
+    λ z e. subst (λ (c : Case). IsSameBelow c w [] z []) (sym h.under) (subst (λ (y : World). IsSameBelow case w [] y []) (some-is h.content z (sym h.tells ∙ e)) h.same) in
     let result = applied-world old.case w edit old.content new.content done whole allowed same after.0 after.1 in
-    let result' = subst (λ (c : Case). IsSameBelow c (apply c w edit) [] after.0 []) h.case result in
-    subst (IsOpened new w o text) (sym none) (
-      ok,
-      record {
-        case = case_is ∙ h.case;
-        content = after.0;
-        tells = after.1;
-        same = subst (λ (e : Edit). IsSameBelow Sensitive (apply Sensitive w e) [] after.0 []) is result';
-      },
-    )
+    let holds : HoldsWorld case new (apply case w edit) = record {
+      under = kept ∙ h.under;
+      content = after.0;
+      tells = after.1;
+      same = subst (λ (c : Case). IsSameBelow c (apply c w edit) [] after.0 []) h.under result;
+    } in
+    subst (λ (k : Option Edit). IsOpened case new text (printed_edit case w k)) is
+    (subst (λ (r : Option Refusal). IsOpened case new text (edited_unless case w edit r)) (sym none) (ok, holds))
 
 -- the edit was refused
-pub open-refused : (old new : TreeTold) (o : Opening) (edit : Edit) (r : Refusal) (text : List ℕ) → edit ≡ opening_edit o → new.case ≡ old.case → new.content ≡ old.content
-    → ((w : World) → old.content ≡ Some w → refusal old.case w edit ≡ Some r) → text ≡ reply_text (Refused r) → IsPrinted (HoldsWorld old) (HoldsWorld new) (λ w. printed_opening w o) text
+pub open-refused : (case : Case) (old new : TreeTold) (o : Opening) (edit : Edit) (r : Refusal) (text : List ℕ) → Some edit ≡ opening_edit o → new.case ≡ old.case → new.content ≡ old.content
+    → ((w : World) → old.content ≡ Some w → refusal old.case w edit ≡ Some r) → text ≡ reply_text (Refused r) → IsPrinted (HoldsWorld case old) (HoldsWorld case new) (λ w. printed_opening case w o) text
 unfolding IsOpened
-open-refused old new o edit r text is case_is kept due told = λ w h.
-    let P : Edit → Type 0 = λ e. refusal Sensitive h.content e ≡ Some r in
-    let here : refusal Sensitive h.content (opening_edit o) ≡ Some r = subst P is (subst (λ (c : Case). refusal c h.content edit ≡ Some r) h.case (due h.content h.tells)) in
-    let some : opening_refusal w o ≡ Some r = same-refusal Sensitive w h.content (opening_edit o) h.same ∙ here in
-    subst (IsOpened new w o text) (sym some) (
-      told,
-      record {
-        case = case_is ∙ h.case;
-        content = h.content;
-        tells = kept ∙ h.tells;
-        same = h.same;
-      },
-    )
+open-refused case old new o edit r text is kept stays due told = λ w h.
+    let here : refusal case h.content edit ≡ Some r = subst (λ (c : Case). refusal c h.content edit ≡ Some r) h.under (due h.content h.tells) in
+    let some : refusal case w edit ≡ Some r = same-refusal case w h.content edit h.same ∙ here in
+    let holds : HoldsWorld case new w = record { under = kept ∙ h.under; content = h.content; tells = stays ∙ h.tells; same = h.same } in
+    subst (λ (k : Option Edit). IsOpened case new text (printed_edit case w k)) is
+    (subst (λ (s : Option Refusal). IsOpened case new text (edited_unless case w edit s)) (sym some) (told, holds))

@@ -7,11 +7,12 @@ use Rattle.vfs_model.specs.Paths.{Path}
 use Rattle.vfs_model.specs.World.{digest_of_bytes}
 use Rattle.vfs_model.specs.Scan.{scan, scan_down}
 use Rattle.script_reader.specs.declared.script.Opening.{Opening}
-use Rattle.script_reader.specs.declared.script.Opening.TheVariants.{Dir, File}
+use Rattle.script_reader.specs.declared.script.Opening.TheVariants.{Queue, Workers, Dir, File}
 use Rattle.script_reader.specs.declared.script.Command.{Command}
-use Rattle.script_reader.specs.declared.script.Command.TheVariants.{Edit, Event, Deliver, Settle, Begin, Read, Publish, Scan, Find, KindOf, VersionOf}
+use Rattle.script_reader.specs.declared.script.Command.TheVariants.{Edit, Event, Lose, Deliver, Settle, Begin, Read, Publish, Abandon, Scan, Find, KindOf, VersionOf}
 use Rattle.script_reader.specs.declared.script.Line.{Line}
 use Rattle.script_reader.specs.declared.script.Script.{Script}
+use Rattle.script_reader.specs.Set.{settings_of}
 use Rattle.world_model.specs.declared.edit.Edit.TheVariants.{Write, Mkdir, Remove, Move}
 use Rattle.vfs_tool.specs.Report.{lines_of}
 use Rattle.vfs_tool.specs.States.{states_of}
@@ -21,7 +22,7 @@ abbrev by : ℕ → Command → Line
 by caller command = record { caller = caller; command = command }
 
 abbrev script : List Opening → List Line → Script
-script opening lines = record { opening = opening; lines = lines }
+script opening lines = record { settings = settings_of opening; opening = opening; lines = lines }
 
 -- the text with its line end
 abbrev line : List ℕ → List ℕ
@@ -80,6 +81,22 @@ whole_scans_are_counted = refl
 edits_are_done_or_refused : lines_of (script (Dir d ∷ Dir d ∷ []) (by 0 (Edit (Mkdir (codes "x" ∷ codes "y" ∷ []))) ∷ by 0 (Edit (Move d (in_d (codes "e")))) ∷ by 0 (Edit (Move d (codes "e" ∷ []))) ∷ by 0 (Edit (Remove d)) ∷ by 0 Settle ∷ []))
     ≡ line (codes "ok") ∷ line (codes "refused " ++ decimal 4) ∷ line (codes "refused " ++ decimal 2) ∷ line (codes "refused " ++ decimal 6) ∷ line (codes "ok") ∷ line (codes "refused " ++ decimal 5) ∷ line (codes "settled " ++ decimal 2) ∷ []
 edits_are_done_or_refused = refl
+
+-- a setting prints `ok`; the second event does not fit in a queue of one, and what was scanned is overtaken by the mark
+a_short_queue_overflows : lines_of (script (Queue 1 ∷ Workers 4 ∷ []) (by 0 (write_f (codes "a")) ∷ by 0 (Edit (Mkdir d)) ∷ by 0 (Begin f) ∷ by 0 Read ∷ by 1 Deliver ∷ by 0 Publish ∷ by 0 (VersionOf d) ∷ by 1 Deliver ∷ []))
+    ≡ line (codes "ok") ∷ line (codes "ok") ∷ line (codes "ok") ∷ line (codes "overflow")
+    ∷ line (codes "version " ++ decimal 0) ∷ line (codes "saw /f file left " ++ decimal 0) ∷ line (codes "cleared") ∷ line (codes "stale " ++ decimal 1) ∷ line (codes "version " ++ decimal 1) ∷ line (codes "nothing") ∷ []
+a_short_queue_overflows = refl
+
+-- what waits is lost, and an event after it is delivered behind the mark
+events_are_lost : lines_of (script [] (by 0 (Event f) ∷ by 0 Lose ∷ by 0 (Event d) ∷ by 0 Settle ∷ by 0 (VersionOf d) ∷ by 0 (VersionOf f) ∷ []))
+    ≡ line (codes "queued") ∷ line (codes "lost") ∷ line (codes "queued") ∷ line (codes "settled " ++ decimal 2) ∷ line (codes "version " ++ decimal 2) ∷ line (codes "version " ++ decimal 1) ∷ []
+events_are_lost = refl
+
+-- a scan is given up by its own caller alone, and may begin anew
+scans_are_abandoned : lines_of (script [] (by 0 Abandon ∷ by 0 (Begin f) ∷ by 1 Abandon ∷ by 0 Abandon ∷ by 0 Abandon ∷ by 0 (Begin d) ∷ []))
+    ≡ line (codes "noscan") ∷ line (codes "version " ++ decimal 0) ∷ line (codes "noscan") ∷ line (codes "abandoned") ∷ line (codes "noscan") ∷ line (codes "version " ++ decimal 0) ∷ []
+scans_are_abandoned = refl
 
 -- the states of a run: the opening one, one after the write, two of the settle, three of the scan (begun, read, published), and one after the find
 a_run_goes_through_eight_states : length (states_of (script [] (by 0 (write_f (codes "a")) ∷ by 0 Settle ∷ by 0 (Scan f) ∷ by 0 (Find f) ∷ []))) ≡ 8

@@ -1,13 +1,13 @@
 -- Each state that the run of a script goes through is sound.
 use Rattle.std.proofs.Common.{◌≡◌, ℕ, zero, suc, ◌<◌, List, [], ◌∷◌, ◌++◌, map, Option, Some, None, refl, subst, arith}
 use Rattle.std.specs.List.{AllByRecursion as Each}
-use Rattle.vfs_model.specs.declared.Case.TheVariants.{Sensitive}
+use Rattle.vfs_model.specs.declared.Case.{Case}
 use Rattle.vfs_model.specs.Paths.{Path}
 use Rattle.vfs_model.specs.Pending.{deliveries_due}
 use Rattle.vfs_model.specs.World.{World, IsWorld}
-use Rattle.vfs_model.specs.Edit.{Edit as TreeEdit, Refusal, refusal, events}
+use Rattle.vfs_model.specs.Edit.{Edit as TreeEdit, Write, Mkdir, Refusal, refusal, events}
 use Rattle.vfs_model.specs.Scanning.{Scan as ScanInProgress}
-use Rattle.vfs_model.specs.State.{State, Call, CallEdit, CallEvent, CallDeliver, CallBegin, CallRead, CallPublish, CallFind, CallKind, CallVersion, answers, scan_of, told_step}
+use Rattle.vfs_model.specs.State.{State, Call, CallEdit, CallEvent, CallLose, CallDeliver, CallBegin, CallRead, CallPublish, CallDrop, CallFind, CallKind, CallVersion, answers, scan_of, told_step}
 use Rattle.vfs_model.specs.History.{IsCall, IsShort, opening, empty_world}
 use Rattle.vfs_model.specs.Sound.{IsSound}
 use Rattle.vfs_laws.proofs.DueLemmas.{told-due}
@@ -15,10 +15,11 @@ use Rattle.vfs_laws.proofs.FewLemmas.{accepted-world}
 use Rattle.vfs_laws.proofs.HistoryLemmas.{step-sound, empty-is_world, opening-is_opening, opening-sound}
 use Rattle.vfs_laws.proofs.RetainedLemmas.{each-append}
 use Rattle.world_model.specs.Meaning.{edit_of}
+use Rattle.world_model.specs.declared.settings.Settings.{Settings}
 use Rattle.world_model.specs.declared.edit.Edit.{Edit as EditValue}
 use Rattle.world_model.specs.declared.edit.Edit.TheVariants as edit_value
 use Rattle.script_reader.specs.declared.script.Command.{Command}
-use Rattle.script_reader.specs.declared.script.Command.TheVariants.{Edit, Event, Deliver, Settle, Begin, Read, Publish, Scan, Find, KindOf, VersionOf}
+use Rattle.script_reader.specs.declared.script.Command.TheVariants.{Edit, Event, Lose, Deliver, Settle, Begin, Read, Publish, Abandon, Scan, Find, KindOf, VersionOf}
 use Rattle.script_reader.specs.declared.script.Opening.{Opening}
 use Rattle.script_reader.specs.declared.script.Opening.TheVariants as opening_line
 use Rattle.script_reader.specs.declared.script.Line.{Line}
@@ -27,7 +28,9 @@ use Rattle.script_reader.specs.declared.script.TextKind.TheVariants.{Replay}
 use Rattle.script_reader.specs.Grammar.{IsOpening, IsEdit, IsCommand, IsOpeningLine, IsCommandLine, AreLines, none, note, line, IsTextOf}
 use Rattle.vfs_tool.specs.Lines.{state_after}
 use Rattle.vfs_tool.specs.Scanned.{reads_due, after_reads}
-use Rattle.vfs_tool.specs.Report.{opening_edit, opening_refusal, world_unless, printed_opening, after_deliveries, published_after, scanned_or, printed_for, printed, opening_state}
+use Rattle.vfs_tool.specs.Report.{edited_unless, printed_opening, after_deliveries, published_after, scanned_or, printed_for, printed, opening_world, opening_state}
+use Rattle.vfs_tool.specs.Printing.{IsQueue}
+use Rattle.vfs_tool.proofs.LineLemmas.{text-queue}
 use Rattle.vfs_tool.specs.States.{states_to, states_once_begun, states_of_scan, states_for, states_of_lines, worlds_of, states_of}
 
 -- ---- the last state of a line
@@ -46,11 +49,13 @@ scan-ends s c p None e = (states_to (λ n. after_reads n (told_step s (CallBegin
 pub states_for-ends : (s : State) (c : ℕ) (command : Command) → (front : List State) × (states_for s c command ≡ front ++ (printed_for s c command).state ∷ [])
 states_for-ends s c (Edit edit) = ([], refl)
 states_for-ends s c (Event p) = ([], refl)
+states_for-ends s c Lose = ([], refl)
 states_for-ends s c Deliver = ([], refl)
 states_for-ends s c Settle = states_to-ends (λ n. after_deliveries n s) (deliveries_due s.pending)
 states_for-ends s c (Begin p) = ([], refl)
 states_for-ends s c Read = ([], refl)
 states_for-ends s c Publish = ([], refl)
+states_for-ends s c Abandon = ([], refl)
 states_for-ends s c (Scan p) = scan-ends s c p (scan_of s c) refl
 states_for-ends s c (Find p) = ([], refl)
 states_for-ends s c (KindOf p) = ([], refl)
@@ -111,11 +116,13 @@ edit-is_call (edit_value.Move p q) words form = (form.0.short, (form.1.short, tt
 states_for-sound : (s : State) (c : ℕ) (command : Command) (words : List (List ℕ)) → c < 16 → IsCommand command words → IsSound s → Each IsSound (states_for s c command)
 states_for-sound s c (Edit edit) words within form sound = call-sound s (CallEdit (edit_of edit)) (edit-is_call edit words form) sound
 states_for-sound s c (Event p) words within form sound = call-sound s (CallEvent p) form.0.short sound
+states_for-sound s c Lose words within form sound = call-sound s CallLose tt sound
 states_for-sound s c Deliver words within form sound = call-sound s CallDeliver tt sound
 states_for-sound s c Settle words within form sound = states_to-sound (λ n. after_deliveries n s) (deliveries_due s.pending) (λ k. after_deliveries-sound k s sound)
 states_for-sound s c (Begin p) words within form sound = call-sound s (CallBegin c p) (within, form.0.short) sound
 states_for-sound s c Read words within form sound = call-sound s (CallRead c) within sound
 states_for-sound s c Publish words within form sound = call-sound s (CallPublish c) within sound
+states_for-sound s c Abandon words within form sound = call-sound s (CallDrop c) within sound
 states_for-sound s c (Scan p) words within form sound = scan-sound s c p (scan_of s c) within form.0.short sound
 states_for-sound s c (Find p) words within form sound = call-sound s (CallFind p) form.0.short sound
 states_for-sound s c (KindOf p) words within form sound = call-sound s (CallKind p) form.0.short sound
@@ -141,32 +148,32 @@ lines-sound (text ∷ texts) (l ∷ lines) s (line _ _ _ _ is more) sound =
 -- ---- opening lines
 
 -- the opening over a world is sound
-over-sound : (world : World) → IsWorld Sensitive world → IsSound (opening Sensitive 1024 world)
-over-sound world h = opening-sound (opening Sensitive 1024 world) (opening-is_opening Sensitive 1024 world (omega arith) (omega arith) h)
-
--- the path of an opening line that has a text is short
-opening-is_short : (o : Opening) (words : List (List ℕ)) → IsOpening o words → Each IsShort (events (opening_edit o))
-opening-is_short (opening_line.Dir p) words form = (form.0.short, tt)
-opening-is_short (opening_line.File p bytes) words form = (form.0.short, tt)
+over-sound : (settings : Settings) (world : World) → IsQueue settings.queue → IsWorld settings.case world → IsSound (opening settings.case settings.queue world)
+over-sound settings world queue h = opening-sound (opening settings.case settings.queue world) (opening-is_opening settings.case settings.queue world queue.0 queue.1 h)
 
 -- an edit that is done or refused leaves a world
-world_unless-is_world : (world : World) (edit : TreeEdit) (r : Option Refusal) → refusal Sensitive world edit ≡ r → Each IsShort (events edit) → IsWorld Sensitive world → IsWorld Sensitive (world_unless world edit r)
-world_unless-is_world world edit None e short h = accepted-world Sensitive world edit e short h
-world_unless-is_world world edit (Some r) e short h = h
+edited-is_world : (case : Case) (world : World) (edit : TreeEdit) (r : Option Refusal) → refusal case world edit ≡ r → Each IsShort (events edit) → IsWorld case world → IsWorld case (edited_unless case world edit r).state
+edited-is_world case world edit None e short h = accepted-world case world edit e short h
+edited-is_world case world edit (Some r) e short h = h
 
 -- an opening line that has a text leaves a world
-opened-is_world : (world : World) (o : Opening) (words : List (List ℕ)) → IsOpening o words → IsWorld Sensitive world → IsWorld Sensitive (printed_opening world o).state
-opened-is_world world o words form h = world_unless-is_world world (opening_edit o) (opening_refusal world o) refl (opening-is_short o words form) h
+opened-is_world : (case : Case) (world : World) (o : Opening) (words : List (List ℕ)) → IsOpening o words → IsWorld case world → IsWorld case (printed_opening case world o).state
+opened-is_world case world (opening_line.Case named) words form h = h
+opened-is_world case world (opening_line.Queue n) words form h = h
+opened-is_world case world (opening_line.Places n) words form h = h
+opened-is_world case world (opening_line.Workers n) words form h = h
+opened-is_world case world (opening_line.Dir p) words form h = edited-is_world case world (Mkdir p) (refusal case world (Mkdir p)) refl (form.0.short, tt) h
+opened-is_world case world (opening_line.File p bytes) words form h = edited-is_world case world (Write p bytes) (refusal case world (Write p bytes)) refl (form.0.short, tt) h
 
 -- the openings over the worlds of opening lines that have texts are sound, and these leave a world
-openings-sound : (texts : List (List ℕ)) (openings : List Opening) (world : World) → AreLines IsOpeningLine texts openings → IsWorld Sensitive world
-    → Each IsSound (map (opening Sensitive 1024) (worlds_of world openings)) × IsWorld Sensitive (state_after printed_opening world openings)
-openings-sound [] [] world none h = ((over-sound world h, tt), h)
-openings-sound [] (o ∷ openings) world impossible h = elim impossible [ ]
-openings-sound (text ∷ texts) openings world (note _ _ _ is more) h = openings-sound texts openings world more h
-openings-sound (text ∷ texts) (o ∷ openings) world (line _ _ _ _ is more) h =
-    let rest = openings-sound texts openings (printed_opening world o).state more (opened-is_world world o is.words is.form h) in
-    ((over-sound world h, rest.0), rest.1)
+openings-sound : (settings : Settings) (texts : List (List ℕ)) (openings : List Opening) (world : World) → IsQueue settings.queue → AreLines IsOpeningLine texts openings → IsWorld settings.case world
+    → Each IsSound (map (opening settings.case settings.queue) (worlds_of settings.case world openings)) × IsWorld settings.case (state_after (printed_opening settings.case) world openings)
+openings-sound settings [] [] world queue none h = ((over-sound settings world queue h, tt), h)
+openings-sound settings [] (o ∷ openings) world queue impossible h = elim impossible [ ]
+openings-sound settings (text ∷ texts) openings world queue (note _ _ _ is more) h = openings-sound settings texts openings world queue more h
+openings-sound settings (text ∷ texts) (o ∷ openings) world queue (line _ _ _ _ is more) h =
+    let rest = openings-sound settings texts openings (printed_opening settings.case world o).state queue more (opened-is_world settings.case world o is.words is.form h) in
+    ((over-sound settings world queue h, rest.0), rest.1)
 
 -- ---- scripts
 
@@ -174,6 +181,8 @@ openings-sound (text ∷ texts) (o ∷ openings) world (line _ _ _ _ is more) h 
 pub states_of-sound : (text : List ℕ) (script : Script) → IsTextOf Replay text script → Each IsSound (states_of script)
 states_of-sound text script is =
     let all = is.script in
-    let opened = openings-sound all.first script.opening empty_world all.opening (empty-is_world Sensitive) in
-    each-append IsSound (map (opening Sensitive 1024) (worlds_of empty_world script.opening)) (states_of_lines (opening_state script) script.lines) opened.0
-    (lines-sound all.second script.lines (opening_state script) all.commands (over-sound (state_after printed_opening empty_world script.opening) opened.1))
+    let settings = script.settings in
+    let queue = text-queue text script is in
+    let opened = openings-sound settings all.first script.opening empty_world queue all.opening (empty-is_world settings.case) in
+    each-append IsSound (map (opening settings.case settings.queue) (worlds_of settings.case empty_world script.opening)) (states_of_lines (opening_state script) script.lines) opened.0
+    (lines-sound all.second script.lines (opening_state script) all.commands (over-sound settings (opening_world script) queue opened.1))

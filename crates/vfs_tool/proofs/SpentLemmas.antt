@@ -6,12 +6,12 @@ use Rattle.vfs_model.specs.Edit.{Edit as TreeEdit, Write, Mkdir, Remove, Move, R
 use Rattle.vfs_model.specs.Pending.{Pending, deliveries_due, put, put_all, has_room}
 use Rattle.vfs_model.specs.Retained.{is_covered}
 use Rattle.vfs_model.specs.Scanning.{Scan, Look, next_left, is_overtaken}
-use Rattle.vfs_model.specs.State.{State, CallBegin, told_step, edit_by, edit_answer_or, begin_or, read_or, read_next, publish_or, publish_next, publish_when, scan_of, look_due}
+use Rattle.vfs_model.specs.State.{State, CallBegin, told_step, edit_by, edit_answer_or, begin_or, read_or, read_next, publish_or, publish_next, publish_when, drop_or, scan_of, look_due}
 use Rattle.vfs_model.specs.Paths.{place}
 use Rattle.vfs_model.specs.Stands.{Parts, Stands}
 use Rattle.world_model.specs.Meaning.{edit_of}
 use Rattle.script_reader.specs.declared.script.Command.{Command}
-use Rattle.script_reader.specs.declared.script.Command.TheVariants.{Edit, Event, Deliver, Settle, Begin, Read, Publish, Scan as ScanLine, Find, KindOf, VersionOf}
+use Rattle.script_reader.specs.declared.script.Command.TheVariants.{Edit, Event, Lose, Deliver, Settle, Begin, Read, Publish, Abandon, Scan as ScanLine, Find, KindOf, VersionOf}
 use Rattle.script_reader.specs.declared.script.Line.{Line}
 use Rattle.vfs_tool.specs.Report.{printed, printed_for, scanned_or}
 use Rattle.vfs_tool.specs.Scanned.{reads_due, after_reads}
@@ -75,6 +75,10 @@ publish-spent : (s : State) (c : ℕ) (o : Option Scan) → spent (publish_or s 
 publish-spent s c None = refl
 publish-spent s c (Some scan) = left-spent s c scan (next_left scan.partial)
 
+drop-spent : (s : State) (c : ℕ) (o : Option Scan) → spent (drop_or s c o).state ≡ spent s
+drop-spent s c None = refl
+drop-spent s c (Some scan) = refl
+
 -- ---- whole scans
 
 reads-spent : (n : ℕ) (s : State) (c : ℕ) → spent (after_reads n s c) ≡ spent s
@@ -93,11 +97,13 @@ scan-spent s c p None =
 pub command-spent : (s : State) (caller : ℕ) (command : Command) → spent (printed_for s caller command).state ≤ spent s + 2
 command-spent s caller (Edit edit) = edit-by s (edit_of edit) (refusal s.case s.world (edit_of edit))
 command-spent s caller (Event p) = let d = put-due p s.pending in omega (arith, d)
+command-spent s caller Lose = omega arith
 command-spent s caller Deliver = let e = spent-after 1 s in omega (arith, e)
 command-spent s caller Settle = let e = spent-after (deliveries_due s.pending) s in omega (arith, e)
 command-spent s caller (Begin p) = let e = begin-spent s caller p (scan_of s caller) in omega (arith, e)
 command-spent s caller Read = let e = read-spent s caller (scan_of s caller) (look_due s (scan_of s caller)) in omega (arith, e)
 command-spent s caller Publish = let e = publish-spent s caller (scan_of s caller) in omega (arith, e)
+command-spent s caller Abandon = let e = drop-spent s caller (scan_of s caller) in omega (arith, e)
 command-spent s caller (ScanLine p) = let e = scan-spent s caller p (scan_of s caller) in omega (arith, e)
 command-spent s caller (Find p) = omega arith
 command-spent s caller (KindOf p) = omega arith

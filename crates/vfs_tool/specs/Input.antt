@@ -1,8 +1,10 @@
 -- What was taken from a source.
 use Rattle.std.specs.Prelude.{◌≡◌, ℕ, ◌+◌, ◌≤◌, List, ◌++◌, length}
+use Rattle.std.specs.List.{AllByRecursion as Each}
 use Rattle.std.specs.declared.option.Option.{Option}
-use Rattle.std.specs.Io.KnownBytes.{Consumes, IsAtEnd}
+use Rattle.std.specs.Io.KnownBytes.{Consumes, Keeps, IsAtEnd}
 use Rattle.vfs_model.specs.Faults.{Rose}
+use Rattle.vfs_io.specs.Told.{SourceTold, Grows}
 use Rattle.vfs_tool.specs.declared.input.Stop.{Stop}
 use Rattle.vfs_tool.specs.declared.input.Stop.TheVariants.{Fault, TooLong, NoMemory}
 
@@ -10,11 +12,21 @@ use Rattle.vfs_tool.specs.declared.input.Stop.TheVariants.{Fault, TooLong, NoMem
 abbrev pub limit : ℕ
 limit = 16777216
 
+-- nothing was taken
+abbrev pub TakesNothing : SourceTold → SourceTold → Type 0
+TakesNothing old new = Keeps old.left new.left × (new.takes ≡ old.takes)
+
 -- all that was left was taken, and it is this text, within the limit
 pub record TakesAll (old new : Option (List ℕ)) (text : List ℕ) : Type 0 where
   pub took : Consumes old new text
   pub end : IsAtEnd new
   pub fits : length text ≤ limit
+
+-- each take that did not fail had a buffer of at most so many bytes
+pub record AsksAtMost (old new : SourceTold) (most : ℕ) : Type 0 where
+  pub lengths : List ℕ
+  pub calls : Grows old.takes new.takes lengths
+  pub small : Each (λ n. n ≤ most) lengths
 
 -- some bytes were taken
 abbrev pub TakesSome : Option (List ℕ) → Option (List ℕ) → (ℕ → Type 0) → Type 0
@@ -30,7 +42,7 @@ pub record Takes (old new : Option (List ℕ)) (text now : List ℕ) (n most : �
   pub end : n ≡ 0 → IsAtEnd new
 
 -- why a run stopped as it took bytes, of which so many were allowed
-abbrev pub Stops : ℕ → ℕ → Option (List ℕ) → Option (List ℕ) → ℕ → Stop → Type 0
-Stops before now old new most Fault = Rose before now × TakesSome old new (λ n. n ≤ most)
-Stops before now old new most TooLong = TakesSome old new (λ n. n ≡ most + 1)
-Stops before now old new most NoMemory = TakesSome old new (λ n. n ≤ most + 1)
+abbrev pub Stops : SourceTold → SourceTold → ℕ → Stop → Type 0
+Stops old new most Fault = Rose old.faults new.faults × TakesSome old.left new.left (λ n. n ≤ most)
+Stops old new most TooLong = TakesSome old.left new.left (λ n. n ≡ most + 1)
+Stops old new most NoMemory = TakesSome old.left new.left (λ n. n ≤ most + 1)

@@ -1,4 +1,3 @@
-pub mod Spelling
 pub mod Replies
 pub mod Report
 pub mod Printing

@@ -1,26 +1,30 @@
 -- What a machine owes to a line: its text, and the state after it.
-use Rattle.std.specs.Prelude.{◌≡◌, ◌<◌, ◌+◌, ◌*◌, ◌^◌, ℕ, List, [], true, is_some}
-use Rattle.std.specs.List.{concat}
-use Rattle.std.specs.declared.option.Option.{Option}
+use Rattle.std.specs.Prelude.{◌≡◌, ◌<◌, ◌≤◌, ◌+◌, ◌*◌, ◌^◌, ℕ, List, [], true, is_some}
 use Rattle.std.specs.declared.option.Option.TheVariants.{Some}
-use Rattle.std.specs.Io.KnownBytes.{Appends}
 use Rattle.vfs_model.specs.Paths.{Path}
 use Rattle.vfs_model.specs.Pending.{deliveries_due}
 use Rattle.vfs_model.specs.State.{State}
 use Rattle.vfs_model.specs.Stands.{Parts, Stands}
-use Rattle.vfs_model.specs.declared.Case.TheVariants.{Sensitive}
+use Rattle.vfs_model.specs.declared.Case.{Case}
 use Rattle.vfs_model.specs.World.{World, IsSameBelow}
 use Rattle.vfs_model.specs.History.{opening}
 use Rattle.world_model.specs.Told.{TreeTold}
 use Rattle.world_model.specs.Held.{Held}
+use Rattle.world_model.specs.declared.settings.Settings.{Settings}
+use Rattle.vfs_io.specs.Told.{SinkTold}
 use Rattle.script_reader.specs.declared.script.Line.{Line}
 use Rattle.vfs_tool.specs.Lines.{Printed, output_lines, state_after}
+use Rattle.vfs_tool.specs.Output.{PutsEach}
 use Rattle.vfs_tool.specs.Report.{published_after}
 use Rattle.vfs_tool.specs.Scanned.{after_reads, EndsAfter}
 
 -- the line is of one of the sixteen callers
 abbrev pub CanRun : Line → Type 0
 CanRun line = line.caller < 16
+
+-- a queue may hold so many events
+abbrev pub IsQueue : ℕ → Type 0
+IsQueue n = (1 ≤ n) × (n ≤ 65536)
 
 -- the machine stands for a state, tells its content, and has room for so many lines, each of which makes at most two invalidations due
 pub record IsReady {V : Type 0} (at : V → Path → ℕ) (count : V → ℕ) (m : Parts V) (lines : ℕ) : Type 0 where
@@ -29,26 +33,26 @@ pub record IsReady {V : Type 0} (at : V → Path → ℕ) (count : V → ℕ) (m
   pub tells : is_some m.content ≡ true
   pub room : count m.versions + deliveries_due m.pending + 2 * lines < 2 ^ 62
 
--- what the tree tells is this world in any order, by names that compare as they are spelled
-pub record HoldsWorld (told : TreeTold) (world : World) : Type 0 where
-  pub case : told.case ≡ Sensitive
+-- what the tree tells is this world in any order, by names that compare under the case
+pub record HoldsWorld (case : Case) (told : TreeTold) (world : World) : Type 0 where
+  pub under : told.case ≡ case
   pub content : World
   pub tells : told.content ≡ Some content
-  pub same : IsSameBelow Sensitive world [] content []
+  pub same : IsSameBelow case world [] content []
 
--- the state is the opening one over a world that the tree in memory holds, with a queue of 1,024 events
-pub record IsOpeningOver (tree : Held) (s : State) : Type 0 where
+-- the state is the opening one over a world that the tree in memory holds, under the case and with the queue of the settings
+pub record IsOpeningOver (settings : Settings) (tree : Held) (s : State) : Type 0 where
   pub world : World
-  pub same : IsSameBelow Sensitive world [] tree.world []
-  pub is : s ≡ opening Sensitive 1024 world
+  pub same : IsSameBelow settings.case world [] tree.world []
+  pub is : s ≡ opening settings.case settings.queue world
 
 -- for every state that stood for what was before, the text is what is printed there, and the state after it stands for what is now
 abbrev pub IsPrinted : {S : Type 0} → (S → Type 0) → (S → Type 0) → (S → Printed S) → List ℕ → Type 0
 IsPrinted {S} before now print text = (s : S) → before s → (text ≡ (print s).text) × now (print s).state
 
--- for every state that stood for what was before, what the lines print was put, and the state after them stands for what is now
-abbrev pub RunsAll : {S X : Type 0} → (S → X → Printed S) → (S → Type 0) → (S → Type 0) → List X → Option (List ℕ) → Option (List ℕ) → Type 0
-RunsAll {S} print before now lines written now_written = (s : S) → before s → Appends written now_written (concat (output_lines print s lines)) × now (state_after print s lines)
+-- for every state that stood for what was before, the output line of each was put by a call of its own, and the state after them stands for what is now
+abbrev pub RunsAll : {S X : Type 0} → (S → X → Printed S) → (S → Type 0) → (S → Type 0) → List X → SinkTold → SinkTold → Type 0
+RunsAll {S} print before now lines old new = (s : S) → before s → PutsEach old new (output_lines print s lines) × now (state_after print s lines)
 
 -- for every state that the machine stood for, in which the reads of the scan end after so many, the text is what their publication prints, and the machine stands for the state after it
 abbrev pub IsPrintedOn : {V : Type 0} → (V → Path → ℕ) → (V → ℕ) → Parts V → Parts V → ℕ → List ℕ → Type 0

@@ -1,5 +1,5 @@
 -- The texts of replies.
-use Rattle.std.specs.Prelude.{◌≡◌, ℕ, List, [], ◌++◌, codes, false, Option, Some, None}
+use Rattle.std.specs.Prelude.{◌≡◌, ℕ, List, [], ◌++◌, codes, true, false, Option, Some, None}
 use Rattle.std.specs.Fmt.{decimal}
 use Rattle.hex.specs.Hex.{encode_lower}
 use Rattle.vfs_path.specs.Texts.{path_text}
@@ -7,9 +7,9 @@ use Rattle.vfs_model.specs.Paths.{Path}
 use Rattle.vfs_model.specs.declared.Kind.{Kind}
 use Rattle.vfs_model.specs.declared.Kind.TheVariants.{Missing, File, Dir}
 use Rattle.vfs_model.specs.Edit.{Refusal, Root, NoParent, NotDir, Exists, Absent, IntoItself, TooDeep, Crowded, ReadOnly}
-use Rattle.vfs_model.specs.State.{Reply, Refused, Done, Overflow, Fits, Lost, Cleared, Delivered, NothingPending, AlreadyOpen, Version, NoScan, AllRead, Saw, Unfinished, Stale, Covered, Stored, Found, KindIs, Fault, Glance}
+use Rattle.vfs_model.specs.State.{Reply, Refused, Done, Overflow, Fits, Lost, Cleared, Delivered, NothingPending, AlreadyOpen, Version, NoScan, AllRead, Saw, Unfinished, Stale, Covered, Stored, Dropped, Found, KindIs, Fault, Glance}
 use Rattle.vfs_model.specs.History.{is_no_memory}
-use Rattle.vfs_tool.specs.Spelling.{spelled}
+use Rattle.script_reader.specs.Spelling.{spelled}
 
 -- the number that is printed for a refusal
 abbrev pub number_of_refusal : Refusal → ℕ
@@ -66,6 +66,8 @@ reply_text (Unfinished n) = codes "unfinished " ++ decimal n
 reply_text (Stale n) = codes "stale " ++ decimal n
 reply_text Covered = codes "covered"
 reply_text Stored = codes "stored"
+reply_text (Dropped true) = codes "abandoned"
+reply_text (Dropped false) = codes "noscan"
 reply_text (Found glance) = found_text glance
 reply_text (KindIs kind) = known_text kind
 reply_text Fault = codes "fault"

@@ -2,17 +2,17 @@
 use Rattle.std.specs.Prelude.{ℕ, zero, suc, List, ◌++◌, codes, Option, Some, None}
 use Rattle.std.specs.List.{concat}
 use Rattle.std.specs.Fmt.{decimal}
-use Rattle.vfs_model.specs.declared.Case.TheVariants.{Sensitive}
+use Rattle.vfs_model.specs.declared.Case.{Case}
 use Rattle.vfs_model.specs.Pending.{deliveries_due}
 use Rattle.vfs_model.specs.Paths.{Path}
 use Rattle.vfs_model.specs.World.{World}
 use Rattle.vfs_model.specs.Edit.{Edit as TreeEdit, Write, Mkdir, Refusal, refusal, apply}
 use Rattle.vfs_model.specs.Scanning.{Scan as ScanInProgress}
-use Rattle.vfs_model.specs.State.{State, Call, CallEdit, CallEvent, CallDeliver, CallBegin, CallRead, CallPublish, CallFind, CallKind, CallVersion, Reply, Refused, Done, scan_of, told_step}
+use Rattle.vfs_model.specs.State.{State, Call, CallEdit, CallEvent, CallLose, CallDeliver, CallBegin, CallRead, CallPublish, CallDrop, CallFind, CallKind, CallVersion, Refused, Done, scan_of, told_step}
 use Rattle.vfs_model.specs.History.{opening, empty_world}
 use Rattle.world_model.specs.Meaning.{edit_of}
 use Rattle.script_reader.specs.declared.script.Command.{Command}
-use Rattle.script_reader.specs.declared.script.Command.TheVariants.{Edit, Event, Deliver, Settle, Begin, Read, Publish, Scan, Find, KindOf, VersionOf}
+use Rattle.script_reader.specs.declared.script.Command.TheVariants.{Edit, Event, Lose, Deliver, Settle, Begin, Read, Publish, Abandon, Scan, Find, KindOf, VersionOf}
 use Rattle.script_reader.specs.declared.script.Opening.{Opening}
 use Rattle.script_reader.specs.declared.script.Opening.TheVariants as opening_line
 use Rattle.script_reader.specs.declared.script.Line.{Line}
@@ -23,31 +23,28 @@ use Rattle.vfs_tool.specs.Scanned.{reads_due, after_reads}
 
 -- ---- opening lines
 
--- the edit of the tree that an opening line asks for
-abbrev pub opening_edit : Opening → TreeEdit
-opening_edit (opening_line.Dir p) = Mkdir p
-opening_edit (opening_line.File p bytes) = Write p bytes
+-- the edit of the tree that an opening line asks for; none for a setting
+abbrev pub opening_edit : Opening → Option TreeEdit
+opening_edit (opening_line.Case case) = None
+opening_edit (opening_line.Queue n) = None
+opening_edit (opening_line.Places n) = None
+opening_edit (opening_line.Workers n) = None
+opening_edit (opening_line.Dir p) = Some (Mkdir p)
+opening_edit (opening_line.File p bytes) = Some (Write p bytes)
 
--- the reply to an opening line, by the refusal of its edit
-abbrev pub opening_reply : Option Refusal → Reply
-opening_reply None = Done
-opening_reply (Some r) = Refused r
+-- what an edit before the first command prints, and the world after it, by its refusal
+abbrev pub edited_unless : Case → World → TreeEdit → Option Refusal → Printed World
+edited_unless case world edit None = record { text = reply_text Done; state = apply case world edit }
+edited_unless case world edit (Some r) = record { text = reply_text (Refused r); state = world }
 
--- the world after an edit, by its refusal
-abbrev pub world_unless : World → TreeEdit → Option Refusal → World
-world_unless world edit None = apply Sensitive world edit
-world_unless world edit (Some r) = world
-
--- why the edit of an opening line is refused
-abbrev pub opening_refusal : World → Opening → Option Refusal
-opening_refusal world o = refusal Sensitive world (opening_edit o)
+-- the same by the edit, where there is one; without one it is told as done
+abbrev pub printed_edit : Case → World → Option TreeEdit → Printed World
+printed_edit case world None = record { text = reply_text Done; state = world }
+printed_edit case world (Some edit) = edited_unless case world edit (refusal case world edit)
 
 -- what an opening line prints, and the world after it
-abbrev pub printed_opening : World → Opening → Printed World
-printed_opening world o = record {
-  text = reply_text (opening_reply (opening_refusal world o));
-  state = world_unless world (opening_edit o) (opening_refusal world o);
-}
+abbrev pub printed_opening : Case → World → Opening → Printed World
+printed_opening case world o = printed_edit case world (opening_edit o)
 
 -- ---- command lines
 
@@ -83,11 +80,13 @@ scanned_or s caller path None = published_after (reads_due s path) (after_reads 
 abbrev pub printed_for : State → ℕ → Command → Printed State
 printed_for s caller (Edit edit) = by_call s (CallEdit (edit_of edit))
 printed_for s caller (Event path) = by_call s (CallEvent path)
+printed_for s caller Lose = by_call s CallLose
 printed_for s caller Deliver = by_call s CallDeliver
 printed_for s caller Settle = settled s
 printed_for s caller (Begin path) = by_call s (CallBegin caller path)
 printed_for s caller Read = by_call s (CallRead caller)
 printed_for s caller Publish = by_call s (CallPublish caller)
+printed_for s caller Abandon = by_call s (CallDrop caller)
 printed_for s caller (Scan path) = scanned_or s caller path (scan_of s caller)
 printed_for s caller (Find path) = by_call s (CallFind path)
 printed_for s caller (KindOf path) = by_call s (CallKind path)
@@ -98,13 +97,17 @@ printed s line = printed_for s line.caller line.command
 
 -- ---- scripts
 
--- the state in which the command lines of a script begin: the tree that its opening lines make of the empty one, and a queue of 1,024 events
+-- the world that the opening lines of a script make of the empty one
+abbrev pub opening_world : Script → World
+opening_world script = state_after (printed_opening script.settings.case) empty_world script.opening
+
+-- the state in which the command lines of a script begin: the world that its opening lines made, and a queue of as many events as its settings say
 abbrev pub opening_state : Script → State
-opening_state script = opening Sensitive 1024 (state_after printed_opening empty_world script.opening)
+opening_state script = opening script.settings.case script.settings.queue (opening_world script)
 
 -- the lines that are printed for a script
 abbrev pub lines_of : Script → List (List ℕ)
-lines_of script = output_lines printed_opening empty_world script.opening ++ output_lines printed (opening_state script) script.lines
+lines_of script = output_lines (printed_opening script.settings.case) empty_world script.opening ++ output_lines printed (opening_state script) script.lines
 
 -- all that is printed for a script
 abbrev pub report_of : Script → List ℕ

@@ -1,14 +1,15 @@
 -- What a run took from its source and put into its sink.
 use Rattle.std.specs.Prelude.{◌≡◌, ℕ, List, [], ◌∷◌, take, map, codes, string_bytes, String}
-use Rattle.std.specs.declared.option.Option.{Option}
-use Rattle.std.specs.List.{concat, AllByRecursion as Each}
+use Rattle.std.specs.List.{AllByRecursion as Each}
 use Rattle.std.specs.Global.{Global}
 use Rattle.std.specs.Io.KnownBytes.{Appends}
 use Rattle.vfs_model.specs.Sound.{IsSound}
+use Rattle.vfs_io.specs.Told.{SourceTold, SinkTold, Grows}
 use Rattle.script_reader.specs.declared.script.Script.{Script}
 use Rattle.script_reader.specs.declared.script.TextKind.TheVariants.{Replay}
 use Rattle.script_reader.specs.Grammar.{IsTextOf, FirstBad}
 use Rattle.vfs_tool.specs.Input.{TakesAll}
+use Rattle.vfs_tool.specs.Output.{PutsEach, PutsPart}
 use Rattle.vfs_tool.specs.Report.{lines_of, report_of}
 use Rattle.vfs_tool.specs.States.{states_of}
 use Rattle.vfs_tool.specs.declared.status.Status.{Status}
@@ -20,31 +21,32 @@ IsReplay words = map string_bytes words ≡ codes "replay" ∷ []
 
 -- ---- what was put for a text
 
--- the text is that of a script, the whole report on it was put, and each state that its run goes through is sound
-pub record PutsReport (text : List ℕ) (before after : Option (List ℕ)) : Type 0 where
+-- the text is that of a script, the whole report on it was put, each line by a call of its own, and each state that its run goes through is sound
+pub record PutsReport (text : List ℕ) (before after : SinkTold) : Type 0 where
   pub script : Script
   pub is : IsTextOf Replay text script
-  pub put : Appends before after (report_of script)
+  pub bytes : Appends before.written after.written (report_of script)
+  pub calls : Grows before.puts after.puts (lines_of script)
   pub sound : Each IsSound (states_of script)
 
--- the text is that of a script, and a prefix of the report on it was put
-abbrev pub PutsPrefix : List ℕ → Option (List ℕ) → Option (List ℕ) → Type 0
-PutsPrefix text before after = (s : Script) × (n : ℕ) × IsTextOf Replay text s × Appends before after (take n (report_of s))
+-- the text is that of a script, and a part of the report on it was put
+abbrev pub PutsPrefix : List ℕ → SinkTold → SinkTold → Type 0
+PutsPrefix text before after = (s : Script) × IsTextOf Replay text s × PutsPart before after (lines_of s)
 
--- the text is that of a script, and the first k lines of the report on it were put, whole
-abbrev pub PutsLines : List ℕ → Option (List ℕ) → Option (List ℕ) → Type 0
-PutsLines text before after = (s : Script) × (k : ℕ) × IsTextOf Replay text s × Appends before after (concat (take k (lines_of s)))
+-- the text is that of a script, and the first k lines of the report on it were put
+abbrev pub PutsLines : List ℕ → SinkTold → SinkTold → Type 0
+PutsLines text before after = (s : Script) × (k : ℕ) × IsTextOf Replay text s × PutsEach before after (take k (lines_of s))
 
 -- ---- what was taken, and put for it
 
-abbrev pub Reports : (old new : Option (List ℕ)) → (before after : Option (List ℕ)) → Type 0
-Reports old new before after = (text : List ℕ) × TakesAll old new text × PutsReport text before after
+abbrev pub Reports : SourceTold → SourceTold → SinkTold → SinkTold → Type 0
+Reports old new before after = (text : List ℕ) × TakesAll old.left new.left text × PutsReport text before after
 
-abbrev pub ReportsPrefix : (old new : Option (List ℕ)) → (before after : Option (List ℕ)) → Type 0
-ReportsPrefix old new before after = (text : List ℕ) × TakesAll old new text × PutsPrefix text before after
+abbrev pub ReportsPrefix : SourceTold → SourceTold → SinkTold → SinkTold → Type 0
+ReportsPrefix old new before after = (text : List ℕ) × TakesAll old.left new.left text × PutsPrefix text before after
 
-abbrev pub ReportsLines : (old new : Option (List ℕ)) → (before after : Option (List ℕ)) → Type 0
-ReportsLines old new before after = (text : List ℕ) × TakesAll old new text × PutsLines text before after
+abbrev pub ReportsLines : SourceTold → SourceTold → SinkTold → SinkTold → Type 0
+ReportsLines old new before after = (text : List ℕ) × TakesAll old.left new.left text × PutsLines text before after
 
 -- ---- the answers that an input has
 

@@ -1,6 +1,6 @@
 -- The states that a run goes through.
 use Rattle.std.specs.Prelude.{ℕ, zero, suc, List, [], ◌∷◌, ◌++◌, map, Option, Some, None}
-use Rattle.vfs_model.specs.declared.Case.TheVariants.{Sensitive}
+use Rattle.vfs_model.specs.declared.Case.{Case}
 use Rattle.vfs_model.specs.Pending.{deliveries_due}
 use Rattle.vfs_model.specs.Paths.{Path}
 use Rattle.vfs_model.specs.World.{World}
@@ -41,10 +41,10 @@ states_of_lines s [] = []
 states_of_lines s (line ∷ more) = states_for s line.caller line.command ++ states_of_lines (printed s line).state more
 
 -- the worlds that opening lines go through, from this one on
-abbrev pub worlds_of : World → List Opening → List World
-worlds_of world [] = world ∷ []
-worlds_of world (line ∷ more) = world ∷ worlds_of (printed_opening world line).state more
+abbrev pub worlds_of : Case → World → List Opening → List World
+worlds_of case world [] = world ∷ []
+worlds_of case world (line ∷ more) = world ∷ worlds_of case (printed_opening case world line).state more
 
 -- the states that a run of the script goes through: the opening ones over the worlds of its opening lines, and those of its command lines
 abbrev pub states_of : Script → List State
-states_of script = map (opening Sensitive 1024) (worlds_of empty_world script.opening) ++ states_of_lines (opening_state script) script.lines
+states_of script = map (opening script.settings.case script.settings.queue) (worlds_of script.settings.case empty_world script.opening) ++ states_of_lines (opening_state script) script.lines

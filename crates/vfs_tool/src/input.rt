@@ -1,7 +1,7 @@
 //! Taking the input.
 
 ghost use Rattle.std.specs.Prelude.{◌≡◌, ◌-◌, ◌<◌, ◌≤◌, length, IfOk, IfErr};
-ghost use Rattle.vfs_tool.specs.Input.{Stops, Takes, TakesAll, limit};
+ghost use Rattle.vfs_tool.specs.Input.{AsksAtMost, Stops, Takes, TakesAll, limit};
 
 use std::alloc::Global;
 use vfs_io::Source;
@@ -25,14 +25,16 @@ pub(crate) enum Stop {
 
 /// One take, of at most the buffer's length, at the end of the text.
 fn take_more<S: Source>(source: &mut S, text: &mut Vec<u8>, buf: &mut [u8]) -> Result<usize, Stop>
-    requires { 0 < length buf.old }
+    requires some { 0 < length buf.old }
+    requires few { length buf.old ≤ 65536 }
     ensures ok { IfOk result (λ n.
-        Takes (S.left source.old) (S.left source.new) text.old.items text.new.items n
+        Takes (S.told source.old).left (S.told source.new).left text.old.items text.new.items n
         (length buf.old)) }
-    ensures err { IfErr result (λ e. Stops (S.faults source.old) (S.faults source.new)
-        (S.left source.old) (S.left source.new) (length buf.old - 1) e) }
+    ensures err { IfErr result (λ e.
+        Stops (S.told source.old) (S.told source.new) (length buf.old - 1) e) }
     ensures short { IfErr result (λ e. e ≡ Stop.TooLong → ⊥) }
-    ensures later { S.faults source.old ≤ S.faults source.new }
+    ensures asked { AsksAtMost (S.told source.old) (S.told source.new) 65536 }
+    ensures later { (S.told source.old).faults ≤ (S.told source.new).faults }
 {
     match source.take(buf) {
         Ok(count) => match text.extend_from_slice(&buf[..count]) {
@@ -48,10 +50,11 @@ fn take_more<S: Source>(source: &mut S, text: &mut Vec<u8>, buf: &mut [u8]) -> R
 /// `TooLong` comes once one byte more than the limit was taken, `Fault` only where the source's
 /// count of faults rose in this call; the only other error is want of memory.
 pub(crate) fn take_all<S: Source>(alloc: Global, source: &mut S) -> Result<Vec<u8>, Stop>
-    ensures ok { IfOk result (λ text. TakesAll (S.left source.old) (S.left source.new) text.items) }
-    ensures err { IfErr result (λ e. Stops (S.faults source.old) (S.faults source.new)
-        (S.left source.old) (S.left source.new) limit e) }
-    ensures later { S.faults source.old ≤ S.faults source.new }
+    ensures ok { IfOk result (λ text.
+        TakesAll (S.told source.old).left (S.told source.new).left text.items) }
+    ensures err { IfErr result (λ e. Stops (S.told source.old) (S.told source.new) limit e) }
+    ensures asked { AsksAtMost (S.told source.old) (S.told source.new) 65536 }
+    ensures later { (S.told source.old).faults ≤ (S.told source.new).faults }
 {
     let mut text = Vec::new(alloc);
     let mut buf = [0u8; TAKE];

@@ -12,7 +12,6 @@ mod output;
 mod replay;
 mod report;
 mod run;
-mod spelling;
 mod status;
 
 use status::Status;

@@ -1,6 +1,7 @@
-//! Opening lines: edits of the tree before the first command line, which tell no events.
+//! Opening lines: settings, and edits of the tree before the first command line, which tell no events.
 
-ghost use Rattle.std.specs.Prelude.{◌≡◌, IfOk};
+ghost use Rattle.std.specs.Prelude.{◌≡◌, IfOk, option_map};
+ghost use Rattle.vfs_model.specs.declared.Case.{Case};
 ghost use Rattle.world_model.specs.Meaning.{edit_of};
 ghost use Rattle.vfs_tool.specs.Report.{opening_edit, printed_opening};
 ghost use Rattle.vfs_tool.specs.Printing.{IsPrinted, HoldsWorld};
@@ -11,17 +12,19 @@ use script_reader::Opening;
 use std::alloc::Global;
 use world_model::{ApplyError, Edit, Tree};
 
-/// The edit that an opening line asks for.
-fn edit_for(opening: &Opening) -> Result<Edit, NoMemory>
-    ensures { IfOk result (λ edit. edit_of edit ≡ opening_edit opening.now) }
+/// The edit that an opening line asks for; none for a setting.
+fn edit_for(opening: &Opening) -> Result<Option<Edit>, NoMemory>
+    ensures { IfOk result (λ edit. option_map edit_of edit ≡ opening_edit opening.now) }
 {
     match opening {
-        Opening::Dir(path) => Ok(Edit::Mkdir(path.share()?)),
-        Opening::File(path, bytes) => Ok(Edit::Write(path.share()?, bytes.share()?)),
+        Opening::Case(_) | Opening::Queue(_) | Opening::Places(_) | Opening::Workers(_) => Ok(None),
+        Opening::Dir(path) => Ok(Some(Edit::Mkdir(path.share()?))),
+        Opening::File(path, bytes) => Ok(Some(Edit::Write(path.share()?, bytes.share()?))),
     }
 }
 
-/// Does what an opening line asks for, and gives what is printed for it, without its line end.
+/// Does what an opening line asks for, and gives what is printed for it, without its line end. A
+/// setting was made before the first line, and leaves the tree.
 ///
 /// The only error is want of memory.
 pub(crate) fn open<T: Tree>(
@@ -29,11 +32,13 @@ pub(crate) fn open<T: Tree>(
     tree: &mut T,
     opening: &Opening,
 ) -> Result<Vec<u8>, NoMemory>
-    ensures { IfOk result (λ text. IsPrinted
-        (HoldsWorld (T.told tree.old)) (HoldsWorld (T.told tree.new))
-        (λ world. printed_opening world opening.now) text.items) }
+    ensures { IfOk result (λ text. (case : Case) → IsPrinted
+        (HoldsWorld case (T.told tree.old)) (HoldsWorld case (T.told tree.new))
+        (λ world. printed_opening case world opening.now) text.items) }
 {
-    let edit = edit_for(opening)?;
+    let Some(edit) = edit_for(opening)? else {
+        return word(alloc, b"ok");
+    };
     // The tree's word that what it tells is a world.
     let _case = tree.case();
     match tree.apply(&edit) {

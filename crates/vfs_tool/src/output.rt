@@ -2,12 +2,12 @@
 
 ghost use Rattle.std.specs.Prelude.{◌≡◌, ◌≤◌, [], ◌∷◌, length, IfErr, OnOk, is_some};
 ghost use Rattle.std.specs.List.{AllByRecursion as Each};
-ghost use Rattle.std.specs.Io.KnownBytes.{Appends};
+ghost use Rattle.vfs_model.specs.declared.Case.{Case};
 ghost use Rattle.vfs_model.specs.Stands.{Stands};
 ghost use Rattle.vfs_tool.specs.Lines.{ended};
 ghost use Rattle.vfs_tool.specs.Report.{printed, printed_opening};
 ghost use Rattle.vfs_tool.specs.Printing.{CanRun, IsReady, RunsAll, HoldsWorld};
-ghost use Rattle.vfs_tool.specs.Output.{Breaks, BreaksOff};
+ghost use Rattle.vfs_tool.specs.Output.{PutsEach, Breaks, BreaksOff};
 
 use crate::opening::open;
 use crate::replay::run_line;
@@ -31,10 +31,10 @@ pub(crate) enum Break {
 /// Puts the text as a line of its own, by one put.
 fn put_text<K: Sink>(mut text: Vec<u8>, sink: &mut K) -> Result<(), Break>
     ensures ok { OnOk result
-        (Appends (K.written sink.old) (K.written sink.new) (ended text.items)) }
-    ensures err { IfErr result (λ e. Breaks (K.faults sink.old) (K.faults sink.new)
-        (K.written sink.old) (K.written sink.new) (ended text.items ∷ []) e) }
-    ensures later { K.faults sink.old ≤ K.faults sink.new }
+        (PutsEach (K.told sink.old) (K.told sink.new) (ended text.items ∷ [])) }
+    ensures err { IfErr result (λ e.
+        Breaks (K.told sink.old) (K.told sink.new) (ended text.items ∷ []) e) }
+    ensures later { (K.told sink.old).faults ≤ (K.told sink.new).faults }
 {
     if text.push(b'\n').is_err() {
         return Err(Break::NoMemory);
@@ -52,13 +52,13 @@ fn put_opening<T: Tree, K: Sink>(
     opening: &Opening,
     sink: &mut K,
 ) -> Result<(), Break>
-    ensures ok { OnOk result (RunsAll printed_opening
-        (HoldsWorld (T.told tree.old)) (HoldsWorld (T.told tree.new)) (opening.now ∷ [])
-        (K.written sink.old) (K.written sink.new)) }
-    ensures err { IfErr result (λ e. BreaksOff printed_opening
-        (HoldsWorld (T.told tree.old)) (opening.now ∷ [])
-        (K.faults sink.old) (K.faults sink.new) (K.written sink.old) (K.written sink.new) e) }
-    ensures later { K.faults sink.old ≤ K.faults sink.new }
+    ensures ok { OnOk result ((case : Case) → RunsAll (printed_opening case)
+        (HoldsWorld case (T.told tree.old)) (HoldsWorld case (T.told tree.new)) (opening.now ∷ [])
+        (K.told sink.old) (K.told sink.new)) }
+    ensures err { IfErr result (λ e. (case : Case) → BreaksOff (printed_opening case)
+        (HoldsWorld case (T.told tree.old)) (opening.now ∷ [])
+        (K.told sink.old) (K.told sink.new) e) }
+    ensures later { (K.told sink.old).faults ≤ (K.told sink.new).faults }
 {
     let Ok(text) = open(alloc, tree, opening) else {
         return Err(Break::NoMemory);
@@ -76,13 +76,13 @@ pub(crate) fn put_openings<T: Tree, K: Sink>(
     openings: &[Opening],
     sink: &mut K,
 ) -> Result<(), Break>
-    ensures ok { OnOk result (RunsAll printed_opening
-        (HoldsWorld (T.told tree.old)) (HoldsWorld (T.told tree.new)) openings.now
-        (K.written sink.old) (K.written sink.new)) }
-    ensures err { IfErr result (λ e. BreaksOff printed_opening
-        (HoldsWorld (T.told tree.old)) openings.now
-        (K.faults sink.old) (K.faults sink.new) (K.written sink.old) (K.written sink.new) e) }
-    ensures later { K.faults sink.old ≤ K.faults sink.new }
+    ensures ok { OnOk result ((case : Case) → RunsAll (printed_opening case)
+        (HoldsWorld case (T.told tree.old)) (HoldsWorld case (T.told tree.new)) openings.now
+        (K.told sink.old) (K.told sink.new)) }
+    ensures err { IfErr result (λ e. (case : Case) → BreaksOff (printed_opening case)
+        (HoldsWorld case (T.told tree.old)) openings.now
+        (K.told sink.old) (K.told sink.new) e) }
+    ensures later { (K.told sink.old).faults ≤ (K.told sink.new).faults }
 {
     for opening in openings {
         put_opening(alloc, tree, opening, sink)?;
@@ -102,12 +102,12 @@ fn put_line<T: Tree, R: Retain, V: Versions + Drop, K: Sink>(
     requires faultless { T.most_faults ≡ 0 }
     ensures ok { OnOk result (RunsAll printed
         (Stands V.version V.count machine.old) (Stands V.version V.count machine.new)
-        (line.now ∷ []) (K.written sink.old) (K.written sink.new)) }
+        (line.now ∷ []) (K.told sink.old) (K.told sink.new)) }
     ensures err { IfErr result (λ e. BreaksOff printed
         (Stands V.version V.count machine.old) (line.now ∷ [])
-        (K.faults sink.old) (K.faults sink.new) (K.written sink.old) (K.written sink.new) e) }
+        (K.told sink.old) (K.told sink.new) e) }
     ensures tells { is_some machine.new.content ≡ is_some machine.old.content }
-    ensures later { K.faults sink.old ≤ K.faults sink.new }
+    ensures later { (K.told sink.old).faults ≤ (K.told sink.new).faults }
 {
     let Ok(text) = run_line(alloc, machine, line) else {
         return Err(Break::NoMemory);
@@ -130,11 +130,11 @@ pub(crate) fn run_lines<T: Tree, R: Retain, V: Versions + Drop, K: Sink>(
     requires faultless { T.most_faults ≡ 0 }
     ensures ok { OnOk result (RunsAll printed
         (Stands V.version V.count machine.old) (Stands V.version V.count machine.new)
-        lines.now (K.written sink.old) (K.written sink.new)) }
+        lines.now (K.told sink.old) (K.told sink.new)) }
     ensures err { IfErr result (λ e. BreaksOff printed
         (Stands V.version V.count machine.old) lines.now
-        (K.faults sink.old) (K.faults sink.new) (K.written sink.old) (K.written sink.new) e) }
-    ensures later { K.faults sink.old ≤ K.faults sink.new }
+        (K.told sink.old) (K.told sink.new) e) }
+    ensures later { (K.told sink.old).faults ≤ (K.told sink.new).faults }
 {
     for line in lines {
         put_line(alloc, machine, line, sink)?;

@@ -13,8 +13,8 @@ ghost use Rattle.std.specs.Fmt.{decimal};
 ghost use Rattle.vfs_tool.specs.Settling.{Settles};
 
 use crate::report::{
-    began_text, delivered_text, edited_text, fit_text, found_text, known_text, numbered,
-    published_text, put_number, readed_text, word,
+    began_text, delivered_text, dropped_text, edited_text, fit_text, found_text, known_text,
+    numbered, published_text, put_number, readed_text, word,
 };
 use case_order::{NoMemory, Share};
 use merkle_hash::Digest;
@@ -50,6 +50,18 @@ fn event_line<T: Tree, R: Retain, V: Versions>(
 {
     let path = path.share()?;
     fit_text(alloc, machine.event(path))
+}
+
+fn lose_line<T: Tree, R: Retain, V: Versions>(
+    alloc: Global,
+    machine: &mut Machine<T, R, V>,
+) -> Result<Vec<u8>, NoMemory>
+    ensures printed { IfOk result (λ text. IsPrinted (Stands V.version V.count machine.old) (Stands V.version V.count machine.new)
+        (λ s. by_call s state.CallLose) text.items) }
+    ensures tells { is_some machine.new.content ≡ is_some machine.old.content }
+{
+    machine.lose();
+    word(alloc, b"lost")
 }
 
 fn deliver_line<T: Tree, R: Retain, V: Versions + Drop>(
@@ -153,6 +165,19 @@ fn publish_line<T: Tree, R: Retain, V: Versions>(
 {
     let digests = scan_digests(alloc, machine, caller)?;
     published_text(alloc, machine.publish(caller, digests.as_slice()))
+}
+
+fn abandon_line<T: Tree, R: Retain, V: Versions>(
+    alloc: Global,
+    machine: &mut Machine<T, R, V>,
+    caller: u64,
+) -> Result<Vec<u8>, NoMemory>
+    requires { caller < 16 }
+    ensures printed { IfOk result (λ text. IsPrinted (Stands V.version V.count machine.old) (Stands V.version V.count machine.new)
+        (λ s. by_call s (state.CallDrop caller)) text.items) }
+    ensures tells { is_some machine.new.content ≡ is_some machine.old.content }
+{
+    dropped_text(alloc, machine.drop_scan(caller))
 }
 
 /// Reads until an answer is not `Saw`, and counts those that are.
@@ -280,11 +305,13 @@ pub(crate) fn run_line<T: Tree, R: Retain, V: Versions + Drop>(
     match &line.command {
         Command::Edit(edit) => edit_line(alloc, machine, edit),
         Command::Event(path) => event_line(alloc, machine, path),
+        Command::Lose => lose_line(alloc, machine),
         Command::Deliver => deliver_line(alloc, machine),
         Command::Settle => settle_line(alloc, machine),
         Command::Begin(path) => begin_line(alloc, machine, caller, path),
         Command::Read => read_line(alloc, machine, caller),
         Command::Publish => publish_line(alloc, machine, caller),
+        Command::Abandon => abandon_line(alloc, machine, caller),
         Command::Scan(path) => scan_line(alloc, machine, caller, path),
         Command::Find(path) => find_line(alloc, machine, path),
         Command::KindOf(path) => kind_line(alloc, machine, path),

@@ -11,9 +11,9 @@ ghost use Rattle.world_model.specs.Meaning.{refusal_of};
 ghost use Rattle.vfs_machine.specs.Steps.{edited_reply, fit_reply, delivered_reply, began_reply, readed_reply, answer_reply};
 ghost use Rattle.vfs_tool.specs.Replies.{Tells, kind_text, digest_text, printed_path};
 
-use crate::spelling::put_spelled;
 use case_order::NoMemory;
 use merkle_hash::Digest;
+use script_reader::put_spelled;
 use snapshot_tree::{Glance, Kind};
 use std::alloc::Global;
 use vfs_machine::{Answer, Began, Delivered, Edited, Readed};
@@ -163,6 +163,17 @@ pub(crate) fn published_text(alloc: Global, answer: Answer) -> Result<Vec<u8>, N
         Answer::Covered => word(alloc, b"covered"),
         Answer::NoMemory => Err(NoMemory),
         Answer::Stored => word(alloc, b"stored"),
+    }
+}
+
+/// The text of the answer to the drop of a scan, which tells whether it was in progress.
+pub(crate) fn dropped_text(alloc: Global, was_open: bool) -> Result<Vec<u8>, NoMemory>
+    ensures { IfOk result (λ text. Tells text.items (state.Dropped was_open)) }
+{
+    if was_open {
+        word(alloc, b"abandoned")
+    } else {
+        word(alloc, b"noscan")
     }
 }
 

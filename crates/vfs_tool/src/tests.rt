@@ -7,6 +7,7 @@ use std::alloc::Global;
 use std::process::Abort;
 use std::test::Fail;
 use vfs_io::{MemSink, MemSource, Source};
+use vfs_path::PathError;
 
 /// What a run answered, what it wrote, and how many bytes it left.
 #[derive(Drop)]
@@ -78,10 +79,64 @@ fn reports_on_scripts(rt: HostRuntime) -> Result<(), Fail> {
             b"0 write /a%20b %00\n0 settle\n0 begin /a%20b\n0 read\n0 read\n0 publish\n0 find /a%20b\n".as_slice(),
             b"ok\nsettled 1\nversion 1\nsaw /a%20b file left 0\ndone\nstored\nfile 93b885adfe0da089cdf634904fd59f71\n".as_slice(),
         ),
+        (
+            b"0 write /a%20b %00\n0 settle\n0 scan /a%20b\n0 find /a%20b\n0 write /e\n0 settle\n0 scan /e\n0 find /e\n".as_slice(),
+            b"ok\nsettled 1\nstored reads 1\nfile 93b885adfe0da089cdf634904fd59f71\nok\nsettled 1\nstored reads 1\nfile d41d8cd98f00b204e9800998ecf8427e\n".as_slice(),
+        ),
         // The other answers.
         (
             b"0 write / a\n0 write /n/x a\n0 read\n0 publish\n3 begin /m%7f\n3 begin /m\n3 publish\n3 read\n3 publish\n0 find /m%7F/x\n0 settle\n".as_slice(),
             b"refused 1\nrefused 2\nnoscan\nnoscan\nversion 0\nopen\nunfinished 1\nsaw /m%7f missing left 0\nstored\nmissing\nsettled 0\n".as_slice(),
+        ),
+    ];
+    assert_reports(&rt, rt.alloc(), &table)
+}
+
+#[test]
+fn sets_the_whole_run(rt: HostRuntime) -> Result<(), Fail> {
+    let table = [
+        // Settings stand in any order among the other opening lines.
+        (
+            b"set places 65536\nset dir /d\nset queue 1\nset case sensitive\nset file /d/a a\nset workers 16\n0 scan /d\n".as_slice(),
+            b"ok\nok\nok\nok\nok\nok\nstored reads 2\n".as_slice(),
+        ),
+        (
+            b"set dir /d\nset dir /D\nset workers 1\nset case sensitive\nset queue 65536\nset places 1\n".as_slice(),
+            b"ok\nok\nok\nok\nok\nok\n".as_slice(),
+        ),
+        // The second event does not fit, and both are lost.
+        (
+            b"set queue 1\n0 write /f abc\n0 write /g abc\n0 begin /f\n0 read\n1 deliver\n0 publish\n0 version /zzz\n1 deliver\n".as_slice(),
+            b"ok\nok\noverflow\nversion 0\nsaw /f file left 0\ncleared\nstale 1\nversion 1\nnothing\n".as_slice(),
+        ),
+    ];
+    assert_reports(&rt, rt.alloc(), &table)
+}
+
+#[test]
+fn loses_events_and_abandons_scans(rt: HostRuntime) -> Result<(), Fail> {
+    let table = [
+        (
+            b"0 lose\n0 event /q\n0 settle\n0 version /q\n0 version /r\n".as_slice(),
+            b"lost\nqueued\nsettled 2\nversion 2\nversion 1\n".as_slice(),
+        ),
+        (
+            b"0 publish\n0 read\n0 abandon\n".as_slice(),
+            b"noscan\nnoscan\nnoscan\n".as_slice(),
+        ),
+        (
+            b"0 begin /a\n0 abandon\n0 abandon\n0 begin /b\n".as_slice(),
+            b"version 0\nabandoned\nnoscan\nversion 0\n".as_slice(),
+        ),
+        // The scan is another caller's.
+        (
+            b"0 begin /a\n15 abandon\n0 read\n".as_slice(),
+            b"version 0\nnoscan\nsaw /a missing left 0\n".as_slice(),
+        ),
+        // Locations are left.
+        (
+            b"set dir /d\nset file /d/a a\nset file /d/b b\n0 begin /d\n0 read\n0 publish\n".as_slice(),
+            b"ok\nok\nok\nversion 0\nsaw /d dir left 2\nunfinished 2\n".as_slice(),
         ),
     ];
     assert_reports(&rt, rt.alloc(), &table)
@@ -237,30 +292,58 @@ fn tells_what_stopped_it(rt: HostRuntime) -> Result<(), Fail> {
         assert_eq!(rt; ended.status, Status::ReadFault);
         assert_eq!(rt; ended.written.len(), 0);
     }
-    let ended = run_with(alloc, &["replay"], STORED, &[], &[2])?;
-    assert_eq!(rt; ended.status, Status::WriteFault);
-    assert_eq!(rt; ended.written.as_slice(), b"ok\n".as_slice());
+    let mut deep = Vec::from_slice(alloc, b"0 find ")?;
+    for _ in 0..65 {
+        deep.extend_from_slice(b"/x")?;
+    }
+    deep.push(b'\n')?;
+    let table = [
+        (
+            b"0 find /a\n0 find /b\n0 fnd /c\n".as_slice(),
+            3,
+            Cause::UnknownWord,
+        ),
+        (b"0 find /a".as_slice(), 1, Cause::NoLineEnd),
+        (deep.as_slice(), 1, Cause::BadPath(PathError::TooDeep)),
+    ];
+    for (script, line, cause) in table {
+        let ended = run_with(alloc, &["replay"], script, &[], &[])?;
+        assert_eq!(rt; ended.status, Status::BadScript(BadLine { line, cause }));
+        assert_eq!(rt; ended.written.len(), 0);
+    }
+    Ok(())
+}
 
-    let ended = run_with(
-        alloc,
-        &["replay"],
-        b"0 find /a\n0 find /b\n0 fnd /c\n",
-        &[],
-        &[],
-    )?;
-    let bad = BadLine {
-        line: 3,
-        cause: Cause::UnknownWord,
-    };
-    assert_eq!(rt; ended.status, Status::BadScript(bad));
-    assert_eq!(rt; ended.written.len(), 0);
+#[test]
+fn puts_each_line_by_a_call_of_its_own(rt: HostRuntime) -> Result<(), Fail> {
+    let alloc = rt.alloc();
+    let lines = [
+        (1, b"ok\n".as_slice()),
+        (2, b"settled 1\n".as_slice()),
+        (3, b"version 1\n".as_slice()),
+        (4, b"saw /f file left 0\n".as_slice()),
+        (5, b"done\n".as_slice()),
+        (6, b"stored\n".as_slice()),
+        (7, b"file 900150983cd24fb0d6963f7d28e17f72\n".as_slice()),
+    ];
+    let mut before = Vec::new(alloc);
+    for (put, line) in lines {
+        let ended = run_with(alloc, &["replay"], STORED, &[], &[put])?;
+        assert_eq!(rt; ended.status, Status::WriteFault);
+        assert_eq!(rt; ended.written.as_slice(), before.as_slice());
+        before.extend_from_slice(line)?;
+    }
+    // No eighth put is made.
+    let ended = run_with(alloc, &["replay"], STORED, &[], &[8])?;
+    assert_eq!(rt; ended.status, Status::Done);
+    assert_eq!(rt; ended.written.as_slice(), before.as_slice());
     Ok(())
 }
 
 #[test]
 fn takes_one_byte_past_its_limit(rt: HostRuntime) -> Result<(), Fail> {
     let alloc = rt.alloc();
-    // Notes alone: the longest script, and one that is a byte longer; both have a byte to spare.
+    // Notes alone: the longest script, and one that is two bytes longer, of which one is left.
     for (len, status, left) in [
         (16_777_216, Status::Done, 0),
         (16_777_218, Status::TooLong, 1),
@@ -277,7 +360,7 @@ fn takes_one_byte_past_its_limit(rt: HostRuntime) -> Result<(), Fail> {
 #[test]
 fn numbers_and_texts_of_statuses(rt: HostRuntime) -> Result<(), Fail> {
     let bad = |cause| Status::BadScript(BadLine { line: 12, cause });
-    let deep = Cause::BadPath(vfs_path::PathError::TooDeep);
+    let deep = Cause::BadPath(PathError::TooDeep);
     let table = [
         (Status::Done, 0, ""),
         (bad(Cause::BadCaller), 1, "bad line 12: cause 5"),

@@ -5,7 +5,7 @@ use Rattle.script_reader.proofs.reader.read_lines.Goals as goal
 
 pub loop-after-init : goal.loop-after-init
 unfolding script_of
-loop-after-init c = (rw (c.from_vec.ensures, c.new.ensures.items, c.from_vec-2.ensures, c.new-2.ensures.items) refl, omega arith)
+loop-after-init c = (rw (c.default.ensures, c.from_vec.ensures, c.new.ensures.items, c.from_vec-2.ensures, c.new-2.ensures.items) refl, omega arith)
 
 pub returns-then-is_empty : goal.returns-then-is_empty
 returns-then-is_empty c =

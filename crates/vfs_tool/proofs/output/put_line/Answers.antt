@@ -9,5 +9,5 @@ returns-clause-ok g c = on_ok_weaker c.put_text.result (λ put. line-run printed
 
 pub returns-clause-err : goal.returns-clause-err
 returns-clause-err g c =
-    IfErr-weaker c.put_text.result _ _ (λ e broke. line-broke printed (Stands g.V.Versions.version g.V.Versions.count c.args.machine.now) (Stands g.V.Versions.version g.V.Versions.count c.run_line.new.machine) c.args.line.now c.in-Ok.text.items _ _ _ _ e c.in-Ok.ensures.printed broke)
+    IfErr-weaker c.put_text.result _ _ (λ e broke. line-broke printed (Stands g.V.Versions.version g.V.Versions.count c.args.machine.now) (Stands g.V.Versions.version g.V.Versions.count c.run_line.new.machine) c.args.line.now c.in-Ok.text.items _ _ e c.in-Ok.ensures.printed broke)
     c.put_text.ensures.err

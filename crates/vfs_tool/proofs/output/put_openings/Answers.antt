@@ -1,5 +1,7 @@
 use Rattle.std.proofs.Common.{suc, ◌<◌, List, ◌∷◌, [], length, take, drop, sym, subst, arith}
 use Rattle.std.proofs.lemmas.Result.{err_from_is_err_and}
+use Rattle.vfs_model.specs.declared.Case.{Case}
+use Rattle.vfs_model.specs.World.{World}
 use Rattle.script_reader.specs.declared.script.Opening.{Opening}
 use Rattle.vfs_tool.specs.Report.{printed_opening}
 use Rattle.vfs_tool.specs.Printing.{HoldsWorld, RunsAll}
@@ -10,7 +12,7 @@ use Rattle.vfs_tool.proofs.output.put_openings.Goals as goal
 
 pub loop-opening-init : goal.loop-opening-init
 loop-opening-init g c = record {
-  run = none-run printed_opening (HoldsWorld (g.T.Tree.told c.args.tree.now)) (g.K.Sink.written c.args.sink.now);
+  run = λ case. none-run (printed_opening case) (HoldsWorld case (g.T.Tree.told c.args.tree.now)) (g.K.Sink.told c.args.sink.now);
   later = omega arith;
 }
 
@@ -21,11 +23,11 @@ loop-opening-preserved g c =
     let i = c.loop-opening.opening-index in
     let opening = c.opening-item.result in
     let here : i < length openings = c.loop-opening-test.true in
-    let old = HoldsWorld (g.T.Tree.told c.args.tree.now) in
-    let new = HoldsWorld (g.T.Tree.told c.put_opening.new.tree) in record {
-      run =
-          subst (λ (os : List Opening). RunsAll printed_opening old new os (g.K.Sink.written c.args.sink.now) (g.K.Sink.written c.put_opening.new.sink)) (sym (take-next openings i opening here c.opening-item.is))
-          (more-run printed_opening old (HoldsWorld (g.T.Tree.told c.loop-opening.tree)) new (take i openings) (opening ∷ []) _ _ _ before.run c.in_ok-put_opening.ensures.ok);
+    let old : Case → World → Type 0 = λ case. HoldsWorld case (g.T.Tree.told c.args.tree.now) in
+    let new : Case → World → Type 0 = λ case. HoldsWorld case (g.T.Tree.told c.put_opening.new.tree) in record {
+      run = λ case.
+          subst (λ (os : List Opening). RunsAll (printed_opening case) (old case) (new case) os (g.K.Sink.told c.args.sink.now) (g.K.Sink.told c.put_opening.new.sink)) (sym (take-next openings i opening here c.opening-item.is))
+          (more-run (printed_opening case) (old case) (HoldsWorld case (g.T.Tree.told c.loop-opening.tree)) (new case) (take i openings) (opening ∷ []) _ _ _ (before.run case) (c.in_ok-put_opening.ensures.ok case));
       later = omega (arith, before.later, c.put_opening.ensures.later);
     }
 
@@ -37,8 +39,9 @@ returns-in_err-put_opening-clause-err g c =
     let i = c.loop-opening.opening-index in
     let opening = c.opening-item.result in
     let e = c.in_err-put_opening.field-0.0 in
-    let old = HoldsWorld (g.T.Tree.told c.args.tree.now) in
     rw (p.1, p.2)
-    (subst (λ (os : List Opening). BreaksOff printed_opening old os (g.K.Sink.faults c.args.sink.now) (g.K.Sink.faults c.put_opening.new.sink) (g.K.Sink.written c.args.sink.now) (g.K.Sink.written c.put_opening.new.sink) e)
+    (λ (case : Case).
+    let old = HoldsWorld case (g.T.Tree.told c.args.tree.now) in
+    subst (λ (os : List Opening). BreaksOff (printed_opening case) old os (g.K.Sink.told c.args.sink.now) (g.K.Sink.told c.put_opening.new.sink) e)
     (sym (split-at openings i opening c.loop-opening-test.true c.opening-item.is))
-    (broken-off printed_opening old (HoldsWorld (g.T.Tree.told c.loop-opening.tree)) (take i openings) (drop (suc i) openings) opening e _ _ _ _ _ _ before.later before.run c.in_err-put_opening.ensures.err))
+    (broken-off (printed_opening case) old (HoldsWorld case (g.T.Tree.told c.loop-opening.tree)) (take i openings) (drop (suc i) openings) opening e _ _ _ before.later (before.run case) (c.in_err-put_opening.ensures.err case)))

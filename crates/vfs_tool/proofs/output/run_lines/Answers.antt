@@ -21,7 +21,7 @@ put_line-requires g c =
 
 pub loop-line-init : goal.loop-line-init
 loop-line-init g c = record {
-  run = none-run printed (Stands g.V.Versions.version g.V.Versions.count c.args.machine.now) (g.K.Sink.written c.args.sink.now);
+  run = none-run printed (Stands g.V.Versions.version g.V.Versions.count c.args.machine.now) (g.K.Sink.told c.args.sink.now);
   ready = ready-less _ _ _ (length c.args.lines.now) _ (omega arith) c.requires.ready;
   later = omega arith;
 }
@@ -37,7 +37,7 @@ loop-line-preserved g c =
     let here : i < length lines = c.loop-line-test.true in
     let run = c.in_ok-put_line.ensures.ok in record {
       run =
-          subst (λ (ls : List Line). RunsAll printed (Stands at count c.args.machine.now) (Stands at count c.put_line.new.machine) ls (g.K.Sink.written c.args.sink.now) (g.K.Sink.written c.put_line.new.sink)) (sym (take-next lines i line here c.line-item.is))
+          subst (λ (ls : List Line). RunsAll printed (Stands at count c.args.machine.now) (Stands at count c.put_line.new.machine) ls (g.K.Sink.told c.args.sink.now) (g.K.Sink.told c.put_line.new.sink)) (sym (take-next lines i line here c.line-item.is))
           (more-run printed (Stands at count c.args.machine.now) (Stands at count c.loop-line.machine) (Stands at count c.put_line.new.machine) (take i lines) (line ∷ []) _ _ _ before.run run);
       ready = ready-next at count c.loop-line.machine c.put_line.new.machine line (length lines - (i + 1)) c.put_line.ensures.tells (λ s st. (run s st).1) (ready-less at count c.loop-line.machine _ (length lines - (i + 1) + 1) (omega arith) before.ready);
       later = omega (arith, before.later, c.put_line.ensures.later);
@@ -52,6 +52,6 @@ returns-in_err-put_line-clause-err g c =
     let line = c.line-item.result in
     let e = c.in_err-put_line.field-0.0 in
     rw (p.1, p.2)
-    (subst (λ (ls : List Line). BreaksOff printed (Stands g.V.Versions.version g.V.Versions.count c.args.machine.now) ls (g.K.Sink.faults c.args.sink.now) (g.K.Sink.faults c.put_line.new.sink) (g.K.Sink.written c.args.sink.now) (g.K.Sink.written c.put_line.new.sink) e)
+    (subst (λ (ls : List Line). BreaksOff printed (Stands g.V.Versions.version g.V.Versions.count c.args.machine.now) ls (g.K.Sink.told c.args.sink.now) (g.K.Sink.told c.put_line.new.sink) e)
     (sym (split-at lines i line c.loop-line-test.true c.line-item.is))
-    (broken-off printed (Stands g.V.Versions.version g.V.Versions.count c.args.machine.now) (Stands g.V.Versions.version g.V.Versions.count c.loop-line.machine) (take i lines) (drop (suc i) lines) line e _ _ _ _ _ _ before.later before.run c.in_err-put_line.ensures.err))
+    (broken-off printed (Stands g.V.Versions.version g.V.Versions.count c.args.machine.now) (Stands g.V.Versions.version g.V.Versions.count c.loop-line.machine) (take i lines) (drop (suc i) lines) line e _ _ _ before.later before.run c.in_err-put_line.ensures.err))

@@ -6,7 +6,7 @@ use Rattle.vfs_tool.proofs.output.run_lines.Given as goal
 
 abbrev pub invariant-loop-line : goal.invariant-loop-line
 invariant-loop-line g l = record {
-  run : RunsAll printed (Stands g.V.Versions.version g.V.Versions.count l.initial.machine) (Stands g.V.Versions.version g.V.Versions.count l.machine) (take l.line-index l.lines) (g.K.Sink.written l.initial.sink) (g.K.Sink.written l.sink);
+  run : RunsAll printed (Stands g.V.Versions.version g.V.Versions.count l.initial.machine) (Stands g.V.Versions.version g.V.Versions.count l.machine) (take l.line-index l.lines) (g.K.Sink.told l.initial.sink) (g.K.Sink.told l.sink);
   ready : IsReady g.V.Versions.version g.V.Versions.count l.machine (length l.lines - l.line-index);
-  later : g.K.Sink.faults l.initial.sink ≤ g.K.Sink.faults l.sink;
+  later : (g.K.Sink.told l.initial.sink).faults ≤ (g.K.Sink.told l.sink).faults;
 }

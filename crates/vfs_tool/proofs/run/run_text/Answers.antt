@@ -1,7 +1,10 @@
 use Rattle.std.proofs.Common.{arith}
-use Rattle.vfs_tool.proofs.LineLemmas.{text-runs, text-few}
+use Rattle.vfs_tool.proofs.LineLemmas.{text-runs, text-few, text-queue}
 use Rattle.vfs_tool.proofs.SoundRunLemmas.{states_of-sound}
 use Rattle.vfs_tool.proofs.run.run_text.Goals as goal
+
+pub run_script-requires-clause-queue : goal.run_script-requires-clause-queue
+run_script-requires-clause-queue g c = text-queue c.args.text.now c.in-Ok.script c.in-Ok.ensures.found
 
 pub run_script-requires-clause-lines : goal.run_script-requires-clause-lines
 run_script-requires-clause-lines g c = text-runs c.args.text.now c.in-Ok.script c.in-Ok.ensures.found
@@ -13,6 +16,7 @@ pub returns-in-Ok-run_script-clause-done : goal.returns-in-Ok-run_script-clause-
 returns-in-Ok-run_script-clause-done g c = λ e. record {
   script = c.in-Ok.script;
   is = c.in-Ok.ensures.found;
-  put = c.in-Ok-run_script.ensures.ok;
+  bytes = c.in-Ok-run_script.ensures.ok.bytes;
+  calls = c.in-Ok-run_script.ensures.ok.calls;
   sound = states_of-sound c.args.text.now c.in-Ok.script c.in-Ok.ensures.found;
 }

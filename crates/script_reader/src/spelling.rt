@@ -1,7 +1,7 @@
-//! Bytes as they are printed.
+//! Values as words.
 
 ghost use Rattle.std.specs.Prelude.{◌≡◌, ◌<◌, ◌++◌, OnOk};
-ghost use Rattle.vfs_tool.specs.Spelling.{is_plain, hex_digit, spelled_byte, spelled};
+ghost use Rattle.script_reader.specs.Spelling.{is_plain, hex_digit, spelled_byte, spelled};
 
 use case_order::NoMemory;
 
@@ -29,9 +29,11 @@ fn put_byte(out: &mut Vec<u8>, byte: u8) -> Result<(), NoMemory>
     Ok(())
 }
 
-/// Appends the bytes, so written that none of them ends a word: those from 0x21 to 0x7e other than
-/// `%` as themselves, and every other as `%` and two lower-case hexadecimal digits.
-pub(crate) fn put_spelled(out: &mut Vec<u8>, bytes: &[u8]) -> Result<(), NoMemory>
+/// Appends the word that stands for the bytes: those from 0x21 to 0x7e other than `%` as themselves,
+/// and every other as `%` and two lower-case hexadecimal digits.
+///
+/// The only error is want of memory; the front of the word may have been appended then.
+pub fn put_spelled(out: &mut Vec<u8>, bytes: &[u8]) -> Result<(), NoMemory>
     ensures { OnOk result (out.new.items ≡ out.old.items ++ spelled bytes.now) }
 {
     for byte in bytes {
