@@ -24,7 +24,7 @@ fn edit_for(opening: &Opening) -> Result<Option<Edit>, NoMemory>
 }
 
 /// Does what an opening line asks for, and gives what is printed for it, without its line end. A
-/// setting was made before the first line, and leaves the tree.
+/// setting has been in force since before the first line, and changes nothing here.
 ///
 /// The only error is want of memory.
 pub(crate) fn open<T: Tree>(
