@@ -8,4 +8,5 @@ pub mod Tables
 pub mod SetLemmas
 pub mod LineLaws
 pub mod TextLaws
+pub mod Prefixes
 pub mod TrueCauses

@@ -90,7 +90,7 @@ record AddsLines (kind : TextKind) (texts : List (List ℕ)) (s now : Script) : 
   lines : AreLines (IsCommandLine kind) texts items
   now-is : now ≡ record { settings = s.settings; opening = s.opening; lines = s.lines ++ items }
 
-snoc_some : {X : Type 0} (xs : List X) (x : X) → xs ++ x ∷ [] ≡ [] → ⊥
+pub snoc_some : {X : Type 0} (xs : List X) (x : X) → xs ++ x ∷ [] ≡ [] → ⊥
 snoc_some [] x e = absurd cc
 snoc_some (y ∷ ys) x e = absurd cc
 

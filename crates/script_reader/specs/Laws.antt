@@ -1,5 +1,6 @@
 -- Laws of scripts.
-use Rattle.std.specs.Prelude.{◌≡◌, ℕ, ◌<◌, ◌^◌, List, ◌∷◌, false, Some, Ok, Err, ◌↔◌, ◌⊎◌}
+use Rattle.std.specs.Prelude.{◌≡◌, ℕ, ◌+◌, ◌<◌, ◌^◌, List, [], ◌∷◌, ◌++◌, Bool, true, false, Some, Ok, Err, ◌↔◌, ◌⊎◌, MatchBool}
+use Rattle.std.specs.List.{count_by}
 use Rattle.std.specs.Fmt.{decimal}
 use Rattle.script_reader.specs.declared.cause.Cause.{Cause}
 use Rattle.script_reader.specs.declared.cause.BadLine.{BadLine}
@@ -9,7 +10,8 @@ use Rattle.script_reader.specs.declared.script.Command.{Command}
 use Rattle.script_reader.specs.declared.script.Script.{Script}
 use Rattle.script_reader.specs.Numbers.{number_of}
 use Rattle.script_reader.specs.Forms.{opening_of, command_of}
-use Rattle.script_reader.specs.Reading.{after_line, script_of}
+use Rattle.script_reader.specs.declared.cause.Cause.TheVariants.{NoLineEnd}
+use Rattle.script_reader.specs.Reading.{is_line_end, after_line, script_of}
 use Rattle.script_reader.specs.Words.{is_note}
 use Rattle.script_reader.specs.Holds.{Holds}
 use Rattle.script_reader.specs.Grammar.{IsOpening, IsCommand, IsTextOf, FirstBad}
@@ -46,6 +48,17 @@ TextsAreUnambiguous = (kind : TextKind) (text : List ℕ) → ((s t : Script) �
 -- a cause that is told of a line holds of it, and the line is no note
 abbrev pub CausesHold : Type 0
 CausesHold = (kind : TextKind) (before : Script) (text : List ℕ) (cause : Cause) → after_line kind before text ≡ Err cause → (is_note text ≡ false) × Holds before text cause
+
+-- the text is empty or ends with a line end
+abbrev pub is_ended : List ℕ → Bool
+is_ended [] = true
+is_ended (b ∷ []) = is_line_end b
+is_ended (b ∷ c ∷ more) = is_ended (c ∷ more)
+
+-- a prefix of the text of a script is one itself where it is empty or ends with a line end, and every other is bad at its last line, which is not ended
+abbrev pub PrefixesAreJudged : Type 0
+PrefixesAreJudged = (kind : TextKind) (front back : List ℕ) (s : Script) → IsTextOf kind (front ++ back) s
+    → MatchBool (is_ended front) ((t : Script) × IsTextOf kind front t) (FirstBad kind front (record { line = count_by is_line_end front + 1; cause = NoLineEnd }))
 
 -- what is written for a script that has a text is a text of it, of the same kind
 abbrev pub WrittenTextsAreTexts : Type 0

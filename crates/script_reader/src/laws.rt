@@ -1,6 +1,6 @@
 //! Laws of scripts, which are about texts alone.
 
-ghost use Rattle.script_reader.specs.Laws.{NumbersAreDecimal, OpeningsAreRead, CommandsAreRead, TextsAreRead, FaultsAreFirst, TextsAreDecided, TextsAreUnambiguous, CausesHold, WrittenTextsAreTexts};
+ghost use Rattle.script_reader.specs.Laws.{NumbersAreDecimal, OpeningsAreRead, CommandsAreRead, TextsAreRead, FaultsAreFirst, TextsAreDecided, TextsAreUnambiguous, CausesHold, PrefixesAreJudged, WrittenTextsAreTexts};
 
 /// A word is read as a number exactly where it is the number's decimal spelling.
 pub fn numbers_are_decimal()
@@ -36,6 +36,12 @@ pub fn texts_are_unambiguous()
 /// A cause that is told of a line holds of it, in the words of the grammar.
 pub fn causes_hold()
     ensures { CausesHold }
+{}
+
+/// A prefix of the text of a script is one itself where it is empty or ends with a line end, and every
+/// other is bad at its last line, which is not ended.
+pub fn prefixes_are_judged()
+    ensures { PrefixesAreJudged }
 {}
 
 /// What is written for a script is a text of it.

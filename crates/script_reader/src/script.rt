@@ -1,8 +1,8 @@
 //! What a script is.
 
-ghost use Rattle.std.specs.Prelude.{◌≡◌, [], ◌∷◌, ◌++◌, ◌==◌, length, OnOk, OnErr};
+ghost use Rattle.std.specs.Prelude.{◌≡◌, [], ◌∷◌, ◌++◌, ◌==◌, length, IfOk, OnOk, OnErr};
 
-use case_order::Case;
+use case_order::{Case, NoMemory, Share, share_all};
 use merkle_hash::Bytes;
 use std::alloc::AllocError;
 use std::marker::Model;
@@ -77,6 +77,59 @@ pub struct Line {
     pub command: Command,
 }
 
+impl Share for Opening {
+    fn share(&self) -> Result<Opening, NoMemory> {
+        Ok(match self {
+            Opening::Case(case) => Opening::Case(*case),
+            Opening::Queue(queue) => Opening::Queue(*queue),
+            Opening::Places(places) => Opening::Places(*places),
+            Opening::Workers(workers) => Opening::Workers(*workers),
+            Opening::Dir(path) => Opening::Dir(path.share()?),
+            Opening::File(path, content) => Opening::File(path.share()?, content.share()?),
+        })
+    }
+}
+
+fn share_edit(edit: &Edit) -> Result<Edit, NoMemory>
+    ensures { IfOk result (λ copy. copy ≡ edit.now) }
+{
+    Ok(match edit {
+        Edit::Write(path, content) => Edit::Write(path.share()?, content.share()?),
+        Edit::Mkdir(path) => Edit::Mkdir(path.share()?),
+        Edit::Remove(path) => Edit::Remove(path.share()?),
+        Edit::Move(from, to) => Edit::Move(from.share()?, to.share()?),
+    })
+}
+
+impl Share for Command {
+    fn share(&self) -> Result<Command, NoMemory> {
+        Ok(match self {
+            Command::Edit(edit) => Command::Edit(share_edit(edit)?),
+            Command::Event(path) => Command::Event(path.share()?),
+            Command::Lose => Command::Lose,
+            Command::Deliver => Command::Deliver,
+            Command::Settle => Command::Settle,
+            Command::Begin(path) => Command::Begin(path.share()?),
+            Command::Read => Command::Read,
+            Command::Publish => Command::Publish,
+            Command::Abandon => Command::Abandon,
+            Command::Scan(path) => Command::Scan(path.share()?),
+            Command::Find(path) => Command::Find(path.share()?),
+            Command::KindOf(path) => Command::KindOf(path.share()?),
+            Command::VersionOf(path) => Command::VersionOf(path.share()?),
+        })
+    }
+}
+
+impl Share for Line {
+    fn share(&self) -> Result<Line, NoMemory> {
+        Ok(Line {
+            caller: self.caller,
+            command: self.command.share()?,
+        })
+    }
+}
+
 /// A list of opening lines.
 #[derive(Debug, Drop)]
 pub struct Openings {
@@ -114,6 +167,13 @@ impl Openings {
     {
         self.items.push(opening)?;
         Ok(())
+    }
+}
+
+impl Share for Openings {
+    fn share(&self) -> Result<Openings, NoMemory> {
+        let items = share_all(*self.items.allocator(), &self.items)?;
+        Ok(Openings { items })
     }
 }
 
@@ -161,6 +221,13 @@ impl Lines {
     {
         self.items.push(line)?;
         Ok(())
+    }
+}
+
+impl Share for Lines {
+    fn share(&self) -> Result<Lines, NoMemory> {
+        let items = share_all(*self.items.allocator(), &self.items)?;
+        Ok(Lines { items })
     }
 }
 

@@ -1,5 +1,7 @@
+ghost use Rattle.std.specs.Prelude.{◌≡◌, IfOk};
+
 use super::*;
-use case_order::{Case, NoMemory};
+use case_order::{Case, NoMemory, Share};
 use std::alloc::{AllocError, Global};
 use std::process::Abort;
 use std::test::Fail;
@@ -437,12 +439,26 @@ fn numbers_causes(rt: HostRuntime) {
     }
 }
 
+/// The script with lists that are shared.
+fn shared(script: &Script) -> Result<Script, NoMemory>
+    ensures { IfOk result (λ copy. copy ≡ script.now) }
+{
+    Ok(Script {
+        settings: script.settings,
+        opening: script.opening.share()?,
+        lines: script.lines.share()?,
+    })
+}
+
 /// Whether the text is that of a script, for which this is written.
 fn is_written(alloc: Global, text: &str, wanted: &str) -> bool {
     let Ok(script) = read_script(alloc, text.as_bytes()) else {
         return false;
     };
-    match write_script(alloc, &script) {
+    let Ok(copy) = shared(&script) else {
+        return false;
+    };
+    match write_script(alloc, &copy) {
         Ok(written) => written.as_slice() == wanted.as_bytes(),
         Err(_) => false,
     }
