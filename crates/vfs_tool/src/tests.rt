@@ -343,9 +343,11 @@ fn puts_each_line_by_a_call_of_its_own(rt: HostRuntime) -> Result<(), Fail> {
 #[test]
 fn takes_one_byte_past_its_limit(rt: HostRuntime) -> Result<(), Fail> {
     let alloc = rt.alloc();
-    // Notes alone: the longest script, and one that is two bytes longer, of which one is left.
+    // Notes alone: the longest script, one that is a byte longer, and one that is two bytes longer, of
+    // which one is left.
     for (len, status, left) in [
         (16_777_216, Status::Done, 0),
+        (16_777_217, Status::TooLong, 0),
         (16_777_218, Status::TooLong, 1),
     ] {
         let script = vec![in alloc; b'\n'; len]?;
