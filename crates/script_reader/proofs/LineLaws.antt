@@ -110,7 +110,7 @@ no_number_form : (name : List ℕ) (limit n : ℕ) → IsNumberForm name limit n
 no_number_form name limit n h = absurd (let e = h.2 in cc)
 
 no_setting : (o : Opening) → IsOpening o [] → ⊥
-no_setting (Case case) h = absurd (let e = h.2 in cc)
+no_setting (Case case) h = absurd cc
 no_setting (Queue n) h = no_number_form _ _ n h
 no_setting (Places n) h = no_number_form _ _ n h
 no_setting (Workers n) h = no_number_form _ _ n h

@@ -7,7 +7,7 @@ use Rattle.std.specs.Fmt.{decimal}
 use Rattle.std.proofs.lemmas.Bool.{ltb-false, le-ltb, leb-true, le-leb}
 use Rattle.std.proofs.lemmas.Slice.Eq.{bytes_eq-Decides}
 use Rattle.vfs_model.specs.declared.Case.{Case as NameCase}
-use Rattle.vfs_model.specs.declared.Case.TheVariants.{Sensitive}
+use Rattle.vfs_model.specs.declared.Case.TheVariants.{Sensitive, Insensitive}
 use Rattle.vfs_model.specs.Paths.{Path}
 use Rattle.vfs_path.specs.declared.error.PathError.{PathError}
 use Rattle.vfs_path.specs.Texts.{IsPath, path_of, path_text}
@@ -21,7 +21,7 @@ use Rattle.script_reader.specs.declared.script.Command.TheVariants.{Edit, Event,
 use Rattle.script_reader.specs.Gives.{◌>>=◌}
 use Rattle.script_reader.specs.Numbers.{number_of}
 use Rattle.script_reader.specs.Forms.{Form, or_bad_path, path_from, content_from, file_from, within, case_from, no_more, one_path, two_paths, one_file, one_number, one_case, alone, with_path, with_two_paths, with_file, with_number, with_case, form_named, unknown, opening_forms, plain_forms, edit_forms, path_forms, opening_of, plain_command_of, path_command_of, command_of}
-use Rattle.script_reader.specs.Grammar.{IsFileForm, IsPathForm, IsTwoPathForm, IsNumberForm, IsCaseWord, IsCaseForm, IsOpening, IsCommand}
+use Rattle.script_reader.specs.Grammar.{IsFileForm, IsPathForm, IsTwoPathForm, IsNumberForm, case_word, IsCaseForm, IsOpening, IsCommand}
 use Rattle.script_reader.proofs.NumberLemmas.{both, decimal_of_number, number_of_decimal}
 use Rattle.vfs_path.proofs.TextLaws.{path_text-from_text, IsPath-from_text, path_of-path_text}
 
@@ -160,27 +160,26 @@ one_number_is limit (word ∷ v ∷ more) n e = absurd cc
 one_number_again : (limit n : ℕ) (args : List (List ℕ)) → limit ≤ 65536 → NumberWords limit n args → one_number limit args ≡ Ok n
 one_number_again limit n args few h = let le = h.1 in rw (h.2, number_of_decimal n (omega arith), le-leb 1 n h.0, le-leb n limit le) refl
 
-case_from_is : (word : List ℕ) (case : NameCase) → case_from word ≡ Ok case → IsCaseWord case word
-case_from_is word case e = case_by (bytes_eq word (codes "sensitive")) (bytes_eq-Decides word (codes "sensitive")) e
-  where
-    case_by : (b : Bool) → Decides b (word ≡ codes "sensitive") → cond b (Ok Sensitive) (Err causes.BadNumber) ≡ Ok case → IsCaseWord case word
-    case_by true d e = (sym (ok_is Sensitive case e), d.0 refl)
-    case_by false d e = absurd cc
+case_by : (word : List ℕ) (case : NameCase) (a b : Bool) → Decides a (word ≡ codes "sensitive") → Decides b (word ≡ codes "insensitive") → cond a (Ok Sensitive) (cond b (Ok Insensitive) (Err causes.BadNumber)) ≡ Ok case
+    → word ≡ case_word case
+case_by word case true b d i e = subst (λ (k : NameCase). word ≡ case_word k) (ok_is Sensitive case e) (d.0 refl)
+case_by word case false true d i e = subst (λ (k : NameCase). word ≡ case_word k) (ok_is Insensitive case e) (i.0 refl)
+case_by word case false false d i e = absurd cc
 
-case_from_again : (word : List ℕ) (case : NameCase) → IsCaseWord case word → case_from word ≡ Ok case
-case_from_again word case h = rw (h.0, h.1) refl
+case_from_is : (word : List ℕ) (case : NameCase) → case_from word ≡ Ok case → word ≡ case_word case
+case_from_is word case e = case_by word case (bytes_eq word (codes "sensitive")) (bytes_eq word (codes "insensitive")) (bytes_eq-Decides word (codes "sensitive")) (bytes_eq-Decides word (codes "insensitive")) e
 
--- the words after the name of a form with a case
-abbrev CaseWords : NameCase → List (List ℕ) → Type 0
-CaseWords case args = (word : List ℕ) × IsCaseWord case word × (args ≡ word ∷ [])
+case_from_again : (case : NameCase) → case_from (case_word case) ≡ Ok case
+case_from_again Sensitive = refl
+case_from_again Insensitive = refl
 
-one_case_is : (args : List (List ℕ)) (case : NameCase) → one_case args ≡ Ok case → CaseWords case args
+one_case_is : (args : List (List ℕ)) (case : NameCase) → one_case args ≡ Ok case → args ≡ case_word case ∷ []
 one_case_is [] case e = absurd cc
-one_case_is (word ∷ []) case e = (word, case_from_is word case e, refl)
+one_case_is (word ∷ []) case e = ap (λ (v : List ℕ). v ∷ []) (case_from_is word case e)
 one_case_is (word ∷ v ∷ more) case e = absurd cc
 
-one_case_again : (args : List (List ℕ)) (case : NameCase) → CaseWords case args → one_case args ≡ Ok case
-one_case_again args case h = rw h.2 (case_from_again h.0 case h.1)
+one_case_again : (args : List (List ℕ)) (case : NameCase) → args ≡ case_word case ∷ [] → one_case args ≡ Ok case
+one_case_again args case h = rw h (case_from_again case)
 
 -- ---- rows of a table
 
@@ -255,7 +254,7 @@ unfolding RowIs
 case_row Is name make is word args x w e =
     let b = bind_ok (one_case args) (λ case. Ok (make case)) x e in
     let i = one_case_is args b.0 b.1 in
-    subst (λ (y : _). Is y (word ∷ args)) (ok_is (make b.0) x b.2) (is b.0 (word ∷ args) (i.0, i.1, cons_same word name args (i.0 ∷ []) w i.2))
+    subst (λ (y : _). Is y (word ∷ args)) (ok_is (make b.0) x b.2) (is b.0 (word ∷ args) (cons_same word name args (case_word b.0 ∷ []) w i))
 
 -- ---- opening lines and commands, row by row
 
@@ -375,8 +374,8 @@ number_row_again name word args limit make n few h =
 
 case_row_again : {X : Type 0} (name word : List ℕ) (args : List (List ℕ)) (make : NameCase → X) (case : NameCase) → IsCaseForm name case (word ∷ args) → (word ≡ name) × (with_case make args ≡ Ok (make case))
 case_row_again name word args make case h =
-    let e = parts_of word name args (h.0 ∷ []) h.2 in
-    (e.0, rw (one_case_again args case (h.0, h.1, e.1)) refl)
+    let e = parts_of word name args (case_word case ∷ []) h in
+    (e.0, rw (one_case_again args case e.1) refl)
 
 pub opening_again : (opening : Opening) (word : List ℕ) (args : List (List ℕ)) → IsOpening opening (word ∷ args) → opening_of word args ≡ Ok opening
 unfolding opening_of

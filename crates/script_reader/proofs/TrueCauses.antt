@@ -1,6 +1,6 @@
 -- A cause that is told holds.
 use Rattle.std.proofs.Common.{◌≡◌, ℕ, ◌<◌, ◌≤◌, Bool, true, false, cond, eqb, ltb, leb, List, [], ◌∷◌, ◌++◌, length, Option, Some, None, Result, Ok, Err, refl, sym, ap, subst, ◌∙◌, ◌&&◌, ◌||◌, arith, inl, inr, ◌⊎◌, lit≤, lit<, rules, Decides}
-use Rattle.std.specs.Prelude.{codes}
+use Rattle.std.specs.Prelude.{◌≢◌, codes}
 use Rattle.std.specs.Str.{bytes_eq}
 use Rattle.std.specs.List.{slice_split, list_any, AllByRecursion}
 use Rattle.std.specs.Fmt.{decimal}
@@ -8,7 +8,7 @@ use Rattle.std.proofs.lemmas.Bool.{leb-false, le-leb, ltb-true}
 use Rattle.std.proofs.Math.Dec.{eqb-suc-zero}
 use Rattle.std.proofs.lemmas.Slice.Eq.{bytes_eq-Decides}
 use Rattle.vfs_model.specs.declared.Case.{Case}
-use Rattle.vfs_model.specs.declared.Case.TheVariants.{Sensitive}
+use Rattle.vfs_model.specs.declared.Case.TheVariants.{Sensitive, Insensitive}
 use Rattle.vfs_model.specs.Paths.{Path}
 use Rattle.vfs_path.specs.declared.error.PathError.{PathError}
 use Rattle.vfs_path.specs.Texts.{path_of, is_empty}
@@ -25,7 +25,7 @@ use Rattle.script_reader.specs.Words.{is_note, hex_of, hex_pair, named_before, v
 use Rattle.script_reader.specs.Forms.{Form, or_bad_path, path_from, content_from, file_from, within, case_from, two_paths, one_file, alone, with_path, with_two_paths, with_file, with_number, with_case, form_named, unknown, opening_forms, plain_forms, edit_forms, path_forms, opening_of, plain_command_of, path_command_of, command_of}
 use Rattle.script_reader.specs.Reading.{with_opening, with_line, caller_from, with_setting, with_command, with_words, after_line}
 use Rattle.script_reader.specs.Set.{is_same_setting}
-use Rattle.script_reader.specs.Grammar.{IsCaseWord, IsOpening, IsCommand}
+use Rattle.script_reader.specs.Grammar.{case_word, IsOpening, IsCommand}
 use Rattle.script_reader.specs.Holds.{HasOne, IsNoNumber, HasBadNumber, case, queue, places, workers, HoldsOfWords, Holds, empty, escape, caller, late, number, repeated, setting, command}
 use Rattle.script_reader.proofs.NumberLemmas.{decimal_of_number, number_of_decimal}
 use Rattle.script_reader.proofs.Tables.{bind_ok, done, ok_is, path_from_again, opening_is, opening_again, command_is, command_again}
@@ -282,9 +282,15 @@ number_tells N limit make some few bad (w ∷ []) c e =
     subst (λ (d : Cause). Tells N (with_number limit make) (w ∷ []) d) o.is (bad w (λ n low high is. o.none n low high (ap number_of is ∙ number_of_decimal n (omega (arith, high, few)))))
 number_tells N limit make some few bad (w ∷ v ∷ ws) c e = count_tells N (with_number limit make) (w ∷ v ∷ ws) c e (number_some limit make some) (λ other same. number_many limit make other (λ one. absurd (omega arith)))
 
-case_err_by : (word : List ℕ) (c : Cause) (b : Bool) → Decides b (word ≡ codes "sensitive") → cond b (Ok Sensitive) (Err BadNumber) ≡ Err c → (BadNumber ≡ c) × ((k : Case) → IsCaseWord k word → ⊥)
-case_err_by word c true d e = absurd cc
-case_err_by word c false d e = (err_is Case BadNumber c e, λ k h. let f = d.1 h.1 in absurd cc)
+case_err_by : (word : List ℕ) (c : Cause) (a b : Bool) → Decides a (word ≡ codes "sensitive") → Decides b (word ≡ codes "insensitive") → cond a (Ok Sensitive) (cond b (Ok Insensitive) (Err BadNumber)) ≡ Err c
+    → (BadNumber ≡ c) × ((k : Case) → word ≢ case_word k)
+case_err_by word c true b d i e = absurd cc
+case_err_by word c false true d i e = absurd cc
+case_err_by word c false false d i e = (err_is Case BadNumber c e, none)
+  where
+    none : (k : Case) → word ≢ case_word k
+    none Sensitive same = let f = d.1 same in absurd cc
+    none Insensitive same = let f = i.1 same in absurd cc
 
 case_some : {X : Type 0} (make : Case → X) → IsSome (with_case make)
 case_some make = (codes "sensitive" ∷ [], make Sensitive, refl)
@@ -294,10 +300,10 @@ case_many make [] ne = refl
 case_many make (w ∷ []) ne = absurd (ne refl)
 case_many make (w ∷ v ∷ ws) ne = refl
 
-case_tells : {X : Type 0} (N : List (List ℕ) → Type 0) (make : Case → X) → ((word : List ℕ) → ((k : Case) → IsCaseWord k word → ⊥) → N (word ∷ [])) → FormTells N (with_case make)
+case_tells : {X : Type 0} (N : List (List ℕ) → Type 0) (make : Case → X) → ((word : List ℕ) → ((k : Case) → word ≢ case_word k) → N (word ∷ [])) → FormTells N (with_case make)
 case_tells N make bad [] c e = count_tells N (with_case make) [] c e (case_some make) (λ other same. case_many make other (λ one. absurd (omega arith)))
 case_tells N make bad (w ∷ []) c e =
-    let o = case_err_by w c (bytes_eq w (codes "sensitive")) (bytes_eq-Decides w (codes "sensitive")) (only_first (case_from w) make c e) in
+    let o = case_err_by w c (bytes_eq w (codes "sensitive")) (bytes_eq w (codes "insensitive")) (bytes_eq-Decides w (codes "sensitive")) (bytes_eq-Decides w (codes "insensitive")) (only_first (case_from w) make c e) in
     subst (λ (d : Cause). Tells N (with_case make) (w ∷ []) d) o.0 (bad w o.1)
 case_tells N make bad (w ∷ v ∷ ws) c e = count_tells N (with_case make) (w ∷ v ∷ ws) c e (case_some make) (λ other same. case_many make other (λ one. absurd (omega arith)))
 

@@ -27,8 +27,8 @@ use Rattle.script_reader.specs.declared.script.Script.{Script}
 use Rattle.script_reader.specs.Words.{is_note}
 use Rattle.script_reader.specs.Reading.{is_line_end}
 use Rattle.script_reader.specs.Spelling.{is_plain, spelled}
-use Rattle.script_reader.specs.Grammar.{IsFileForm, IsCaseForm, IsOpening, IsEdit, IsCommand, IsOpeningLine, IsCommandLine, AreLines, none, note, line, IsTextOf}
-use Rattle.script_reader.specs.Writing.{spaced, tail_text, file_words, case_word, opening_words, edit_words, command_words, opening_text, line_text, ended, lines_text, text_of, HasText}
+use Rattle.script_reader.specs.Grammar.{case_word, IsFileForm, IsCaseForm, IsOpening, IsEdit, IsCommand, IsOpeningLine, IsCommandLine, AreLines, none, note, line, IsTextOf}
+use Rattle.script_reader.specs.Writing.{spaced, tail_text, file_words, opening_words, edit_words, command_words, opening_text, line_text, ended, lines_text, text_of, HasText}
 use Rattle.script_reader.proofs.NumberLemmas.{both, digits_of_decimal}
 use Rattle.script_reader.proofs.Written.{Above, above_append, spelled_above, none_in, AllFull, words_again}
 
@@ -38,12 +38,8 @@ file_form : (name : List ℕ) (path : Path) (bytes : List ℕ) → IsPath path �
 file_form name path [] is fits = (is, fits, inr (refl, refl))
 file_form name path (b ∷ bytes) is fits = (is, fits, inl refl)
 
-case_form : (name : List ℕ) (case : NameCase) (words : List (List ℕ)) → IsCaseForm name case words → IsCaseForm name case (name ∷ case_word case ∷ [])
-case_form name Sensitive words h = (codes "sensitive", (refl, refl), refl)
-case_form name Insensitive words h = absurd (let e = h.1.0 in cc)
-
 opening_form : (o : Opening) (words : List (List ℕ)) → IsOpening o words → IsOpening o (opening_words o)
-opening_form (Case case) words h = case_form (codes "case") case words h
+opening_form (Case case) words h = refl
 opening_form (Queue n) words h = (h.0, h.1, refl)
 opening_form (Places n) words h = (h.0, h.1, refl)
 opening_form (Workers n) words h = (h.0, h.1, refl)

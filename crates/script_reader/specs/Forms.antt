@@ -2,7 +2,7 @@
 use Rattle.std.specs.Prelude.{ℕ, List, [], ◌∷◌, Option, Some, None, Result, Ok, Err, length, nat_lt, nat_le, ◌&&◌, if◌then◌else◌, codes}
 use Rattle.std.specs.Str.{bytes_eq}
 use Rattle.vfs_model.specs.declared.Case.{Case}
-use Rattle.vfs_model.specs.declared.Case.TheVariants.{Sensitive}
+use Rattle.vfs_model.specs.declared.Case.TheVariants.{Sensitive, Insensitive}
 use Rattle.vfs_model.specs.Paths.{Path}
 use Rattle.vfs_path.specs.declared.error.PathError.{PathError}
 use Rattle.vfs_path.specs.Texts.{path_of}
@@ -42,7 +42,7 @@ within limit (Some n) = if nat_le 1 n && nat_le n limit then Ok n else Err cause
 
 -- the case that the word names
 abbrev pub case_from : List ℕ → Result Case Cause
-case_from word = if bytes_eq word (codes "sensitive") then Ok Sensitive else Err causes.BadNumber
+case_from word = if bytes_eq word (codes "sensitive") then Ok Sensitive else if bytes_eq word (codes "insensitive") then Ok Insensitive else Err causes.BadNumber
 
 -- ---- what may stand after the second word
 

@@ -3,7 +3,7 @@ use Rattle.std.specs.Prelude.{◌≡◌, ℕ, ◌+◌, ◌≤◌, ◌⊎◌, Lis
 use Rattle.std.specs.List.{slice_split}
 use Rattle.std.specs.Fmt.{decimal}
 use Rattle.vfs_model.specs.declared.Case.{Case as NameCase}
-use Rattle.vfs_model.specs.declared.Case.TheVariants.{Sensitive}
+use Rattle.vfs_model.specs.declared.Case.TheVariants.{Sensitive, Insensitive}
 use Rattle.vfs_model.specs.Paths.{Path}
 use Rattle.vfs_path.specs.Texts.{IsPath, path_text}
 use Rattle.world_model.specs.declared.edit.Edit.{Edit as EditValue}
@@ -40,13 +40,14 @@ IsFileForm name path bytes words = IsPath path × (length bytes ≤ 1048576) × 
 abbrev pub IsNumberForm : List ℕ → ℕ → ℕ → List (List ℕ) → Type 0
 IsNumberForm name limit n words = (1 ≤ n) × (n ≤ limit) × (words ≡ name ∷ decimal n ∷ [])
 
--- a case that a script may name, and the word for it
-abbrev pub IsCaseWord : NameCase → List ℕ → Type 0
-IsCaseWord case word = (case ≡ Sensitive) × (word ≡ codes "sensitive")
+-- the word for a case
+abbrev pub case_word : NameCase → List ℕ
+case_word Sensitive = codes "sensitive"
+case_word Insensitive = codes "insensitive"
 
 -- a name and a case
 abbrev pub IsCaseForm : List ℕ → NameCase → List (List ℕ) → Type 0
-IsCaseForm name case words = (word : List ℕ) × IsCaseWord case word × (words ≡ name ∷ word ∷ [])
+IsCaseForm name case words = words ≡ name ∷ case_word case ∷ []
 
 -- the words of an opening line after `set`
 abbrev pub IsOpening : Opening → List (List ℕ) → Type 0

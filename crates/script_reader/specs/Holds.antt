@@ -10,7 +10,7 @@ use Rattle.script_reader.specs.declared.script.Opening.{Opening}
 use Rattle.script_reader.specs.declared.script.Script.{Script}
 use Rattle.script_reader.specs.Words.{value_of, words_of}
 use Rattle.script_reader.specs.Set.{is_same_setting}
-use Rattle.script_reader.specs.Grammar.{IsCaseWord, IsOpening, IsCommand}
+use Rattle.script_reader.specs.Grammar.{case_word, IsOpening, IsCommand}
 
 -- one of the items is such
 abbrev pub HasOne : {A : Type 0} → (A → Type 0) → List A → Type 0
@@ -30,7 +30,7 @@ IsNoNumber limit word = (n : ℕ) → 1 ≤ n → n ≤ limit → word ≢ decim
 
 -- the words after `set` name a setting, and the one word behind it is not what that setting has
 pub data HasBadNumber : List (List ℕ) → Type 0 where
-  case : (word : List ℕ) → ((c : Case) → IsCaseWord c word → ⊥) → HasBadNumber (codes "case" ∷ word ∷ [])
+  case : (word : List ℕ) → ((c : Case) → word ≢ case_word c) → HasBadNumber (codes "case" ∷ word ∷ [])
   queue : (word : List ℕ) → IsNoNumber 65536 word → HasBadNumber (codes "queue" ∷ word ∷ [])
   places : (word : List ℕ) → IsNoNumber 65536 word → HasBadNumber (codes "places" ∷ word ∷ [])
   workers : (word : List ℕ) → IsNoNumber 16 word → HasBadNumber (codes "workers" ∷ word ∷ [])

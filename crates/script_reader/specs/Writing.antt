@@ -2,8 +2,6 @@
 use Rattle.std.specs.Prelude.{ℕ, List, [], ◌∷◌, ◌++◌, codes}
 use Rattle.std.specs.List.{flat_map}
 use Rattle.std.specs.Fmt.{decimal}
-use Rattle.vfs_model.specs.declared.Case.{Case as NameCase}
-use Rattle.vfs_model.specs.declared.Case.TheVariants.{Sensitive, Insensitive}
 use Rattle.vfs_model.specs.Paths.{Path}
 use Rattle.vfs_path.specs.Texts.{path_text}
 use Rattle.world_model.specs.declared.edit.Edit.{Edit as EditValue}
@@ -15,7 +13,7 @@ use Rattle.script_reader.specs.declared.script.Command.{Command}
 use Rattle.script_reader.specs.declared.script.Command.TheVariants.{Edit, Event, Lose, Deliver, Settle, Begin, Read, Publish, Abandon, Scan, Find, KindOf, VersionOf}
 use Rattle.script_reader.specs.declared.script.Line.{Line}
 use Rattle.script_reader.specs.declared.script.Script.{Script}
-use Rattle.script_reader.specs.Grammar.{IsTextOf}
+use Rattle.script_reader.specs.Grammar.{case_word, IsTextOf}
 use Rattle.script_reader.specs.Spelling.{spelled}
 
 -- ---- words
@@ -44,11 +42,6 @@ two_path_words name from to = name ∷ path_text from ∷ path_text to ∷ []
 abbrev pub file_words : List ℕ → Path → List ℕ → List (List ℕ)
 file_words name path [] = name ∷ path_text path ∷ []
 file_words name path (b ∷ bytes) = name ∷ path_text path ∷ (b ∷ bytes) ∷ []
-
--- the word for a case; no script has the second
-abbrev pub case_word : NameCase → List ℕ
-case_word Sensitive = codes "sensitive"
-case_word Insensitive = codes "insensitive"
 
 -- the words of an opening line after `set`
 abbrev pub opening_words : Opening → List (List ℕ)

@@ -59,10 +59,12 @@ fn case_from(word: &[u8]) -> Result<Case, LineError>
     ensures { Gives result (case_from word.now) }
 {
     if word == b"sensitive".as_slice() {
-        Ok(Case::Sensitive)
-    } else {
-        Err(LineError::Bad(Cause::BadNumber))
+        return Ok(Case::Sensitive);
     }
+    if word == b"insensitive".as_slice() {
+        return Ok(Case::Insensitive);
+    }
+    Err(LineError::Bad(Cause::BadNumber))
 }
 
 fn no_more(args: &[Word]) -> Result<(), LineError>

@@ -20,7 +20,7 @@ pub enum TextKind {
 /// in the tree, which no event tells of.
 #[derive(Debug, Drop)]
 pub enum Opening {
-    /// `set case sensitive`: how names are compared.
+    /// `set case sensitive` or `set case insensitive`: how names are compared.
     Case(Case),
     /// `set queue N`: how many events the queue holds, 1 to 65,536.
     Queue(u64),

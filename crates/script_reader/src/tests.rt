@@ -121,7 +121,7 @@ fn reads_escapes_and_notes(rt: HostRuntime) {
 
 fn is_opening(alloc: Global, opening: &Opening, name: &str, word: &str, content: &str) -> bool {
     match opening {
-        Opening::Case(case) => name == "case" && *case == Case::Sensitive,
+        Opening::Case(case) => name == "case" && *case == Case::Insensitive,
         Opening::Queue(_) => name == "queue",
         Opening::Places(_) => name == "places",
         Opening::Workers(_) => name == "workers",
@@ -136,13 +136,14 @@ fn is_opening(alloc: Global, opening: &Opening, name: &str, word: &str, content:
 fn reads_opening_lines(rt: HostRuntime) -> Result<(), Fail> {
     let alloc = rt.alloc();
     let text =
-        "# a note\nset dir /a%20b\nset queue 1\n\nset file /f\ns%65t file / x%20y\nset workers 16\nset dir /\n#\n0 read\n# set\n3 settle\n";
+        "# a note\nset dir /a%20b\nset queue 1\n\nset file /f\ns%65t file / x%20y\nset case insensitive\nset workers 16\nset dir /\n#\n0 read\n# set\n3 settle\n";
     let script = read_script(alloc, text.as_bytes()).ok().ok_or("a script")?;
     let table = [
         ("dir", "/a b", ""),
         ("queue", "", ""),
         ("file", "/f", ""),
         ("file", "/", "x y"),
+        ("case", "", ""),
         ("workers", "", ""),
         ("dir", "/", ""),
     ];
@@ -161,24 +162,26 @@ fn reads_opening_lines(rt: HostRuntime) -> Result<(), Fail> {
 fn keeps_what_is_set(rt: HostRuntime) -> Result<(), Fail> {
     let alloc = rt.alloc();
     let table = [
-        ("", 1024, 65_536, 1),
-        ("set case sensitive\n", 1024, 65_536, 1),
-        ("set queue 1\n", 1, 65_536, 1),
-        ("set queue 65536\n", 65_536, 65_536, 1),
-        ("set places 1\n0 read\n", 1024, 1, 1),
-        ("set places 65536\n", 1024, 65_536, 1),
-        ("set workers 16\n", 1024, 65_536, 16),
+        ("", Case::Sensitive, 1024, 65_536, 1),
+        ("set case sensitive\n", Case::Sensitive, 1024, 65_536, 1),
+        ("set case insensitive\n", Case::Insensitive, 1024, 65_536, 1),
+        ("set queue 1\n", Case::Sensitive, 1, 65_536, 1),
+        ("set queue 65536\n", Case::Sensitive, 65_536, 65_536, 1),
+        ("set places 1\n0 read\n", Case::Sensitive, 1024, 1, 1),
+        ("set places 65536\n", Case::Sensitive, 1024, 65_536, 1),
+        ("set workers 16\n", Case::Sensitive, 1024, 65_536, 16),
         (
-            "set dir /d\nset workers 2\nset file /f\nset case s%65nsitive\nset queue 3\nset places 4\n",
+            "set dir /d\nset workers 2\nset file /f\nset case ins%65nsitive\nset queue 3\nset places 4\n",
+            Case::Insensitive,
             3,
             4,
             2,
         ),
     ];
-    for (text, queue, places, workers) in table {
+    for (text, case, queue, places, workers) in table {
         let script = read_script(alloc, text.as_bytes()).ok().ok_or("a script")?;
         let wanted = Settings {
-            case: Case::Sensitive,
+            case,
             queue,
             places,
             workers,
@@ -243,7 +246,7 @@ fn tells_each_cause(rt: HostRuntime) -> Result<(), Fail> {
         ("set workers 17\n", Cause::BadNumber),
         ("set workers 4294967297\n", Cause::BadNumber),
         ("set case Sensitive\n", Cause::BadNumber),
-        ("set case insensitive\n", Cause::BadNumber),
+        ("set case INSENSITIVE\n", Cause::BadNumber),
         ("0\n", Cause::WrongCount),
         ("set queue\n", Cause::WrongCount),
         ("set case sensitive x\n", Cause::WrongCount),
@@ -337,7 +340,7 @@ fn tells_the_first_cause_of_the_first_line(rt: HostRuntime) -> Result<(), Fail> 
             Some((3, Cause::Repeated)),
         ),
         (
-            "set case sensitive\nset case sensitive\n",
+            "set case sensitive\nset case insensitive\n",
             Some((2, Cause::Repeated)),
         ),
         // Other lines may stand twice, and one number on two settings.
@@ -502,6 +505,7 @@ fn writes_what_it_read(rt: HostRuntime) {
         ("0 find /a%2Fb%2f%61\n", "0 find /a/b/a\n"),
         ("%31%35 kin%64 /%C3%A4\n", "15 kind /%c3%a4\n"),
         ("s%65t queue 1%30\n", "set queue 10\n"),
+        ("set c%61se i%6esensitive\n", "set case insensitive\n"),
         // A byte that stands for itself, and its neighbours that do not.
         (
             "0 write /a %20%21%22%23%24%25%26\n",

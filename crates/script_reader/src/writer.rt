@@ -2,8 +2,8 @@
 
 ghost use Rattle.std.specs.Prelude.{◌≡◌, ◌∷◌, [], ◌++◌, IfOk, OnOk};
 ghost use Rattle.vfs_path.specs.Texts.{path_text};
-ghost use Rattle.script_reader.specs.Grammar.{IsTextOf};
-ghost use Rattle.script_reader.specs.Writing.{spaced, tail_text, number_words, path_words, two_path_words, file_words, case_word, opening_words, edit_words, command_words, ended, opening_text, line_text, openings_text, lines_text, text_of, HasText};
+ghost use Rattle.script_reader.specs.Grammar.{case_word, IsTextOf};
+ghost use Rattle.script_reader.specs.Writing.{spaced, tail_text, number_words, path_words, two_path_words, file_words, opening_words, edit_words, command_words, ended, opening_text, line_text, openings_text, lines_text, text_of, HasText};
 
 use crate::script::{Command, Line, Opening, Script, TextKind};
 use crate::spelling::put_spelled;

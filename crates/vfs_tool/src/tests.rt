@@ -114,6 +114,29 @@ fn sets_the_whole_run(rt: HostRuntime) -> Result<(), Fail> {
 }
 
 #[test]
+fn compares_names_under_the_case(rt: HostRuntime) -> Result<(), Fail> {
+    let table = [
+        // A move gives the last name another spelling, and is no move to somewhere else.
+        (
+            b"set case insensitive\nset dir /a\nset file /a/x abc\n0 scan /\n0 find /A/X\n1 move /a /A\n0 find /a/x\n1 settle\n0 find /a/x\n0 begin /\n0 read\n0 read\n".as_slice(),
+            b"ok\nok\nok\nstored reads 3\nfile 900150983cd24fb0d6963f7d28e17f72\nok\nfile 900150983cd24fb0d6963f7d28e17f72\nsettled 2\nunknown\nversion 2\nsaw / dir left 1\nsaw /A dir left 1\n".as_slice(),
+        ),
+        // A file that is written again keeps its spelling, a second directory is refused, and an event
+        // has to do with the other spelling. `[` and `{`, and letters past ASCII, stay apart.
+        (
+            b"set case insensitive\nset file /F a\nset dir /f\nset file /[ a\nset file /{ a\nset file /%c3%84 a\nset file /%c3%a4 a\n0 write /f b\n0 settle\n0 begin /\n0 read\n0 read\n1 event /f\n1 deliver\n0 version /F\n0 version /[\n".as_slice(),
+            b"ok\nok\nrefused 4\nok\nok\nok\nok\nok\nsettled 1\nversion 1\nsaw / dir left 5\nsaw /[ file left 4\nqueued\ndelivered /f\nversion 2\nversion 0\n".as_slice(),
+        ),
+        // The same under the other case.
+        (
+            b"set case sensitive\nset file /F a\nset dir /f\n0 scan /F\n1 event /f\n1 deliver\n0 find /F\n0 find /f\n".as_slice(),
+            b"ok\nok\nok\nstored reads 1\nqueued\ndelivered /f\nfile 0cc175b9c0f1b6a831c399e269772661\nunknown\n".as_slice(),
+        ),
+    ];
+    assert_reports(&rt, rt.alloc(), &table)
+}
+
+#[test]
 fn loses_events_and_abandons_scans(rt: HostRuntime) -> Result<(), Fail> {
     let table = [
         (
