@@ -27,7 +27,7 @@ use Rattle.script_reader.specs.declared.script.Script.{Script}
 use Rattle.script_reader.specs.Words.{is_note}
 use Rattle.script_reader.specs.Reading.{is_line_end}
 use Rattle.script_reader.specs.Spelling.{is_plain, spelled}
-use Rattle.script_reader.specs.Grammar.{case_word, IsFileForm, IsCaseForm, IsOpening, IsEdit, IsCommand, IsOpeningLine, IsCommandLine, AreLines, none, note, line, IsTextOf}
+use Rattle.script_reader.specs.Grammar.{case_word, IsFileForm, IsOpening, IsEdit, IsCommand, IsOpeningLine, IsCommandLine, AreLines, none, note, line, IsTextOf}
 use Rattle.script_reader.specs.Writing.{spaced, tail_text, file_words, opening_words, edit_words, command_words, opening_text, line_text, ended, lines_text, text_of, HasText}
 use Rattle.script_reader.proofs.NumberLemmas.{both, digits_of_decimal}
 use Rattle.script_reader.proofs.Written.{Above, above_append, spelled_above, none_in, AllFull, words_again}
