@@ -1,0 +1,4 @@
+pub mod OrderLemmas
+pub mod WalkLemmas
+pub mod ShownLemmas
+pub mod LawLemmas
