@@ -1,16 +1,13 @@
 -- Lines that are done one after the other, each of which prints a line.
-use Rattle.std.specs.Prelude.{ℕ, List, [], ◌∷◌, ◌++◌}
+use Rattle.std.specs.Prelude.{ℕ, List, [], ◌∷◌}
+use Rattle.script_reader.specs.Writing.{ended}
 
 -- what a line prints, without its line end, and the state after it
 pub record Printed (S : Type 0) : Type 0 where
   pub text : List ℕ
   pub state : S
 
--- the text with its line end
-abbrev pub ended : List ℕ → List ℕ
-ended text = text ++ 10 ∷ []
-
--- the output lines of these lines
+-- the output lines of these lines, each with its line end
 abbrev pub output_lines : {S X : Type 0} → (S → X → Printed S) → S → List X → List (List ℕ)
 output_lines print s [] = []
 output_lines print s (x ∷ more) = ended (print s x).text ∷ output_lines print (print s x).state more
