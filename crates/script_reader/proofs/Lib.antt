@@ -2,8 +2,6 @@ pub mod Units
 pub mod Loops
 pub mod Walk
 pub mod NumberLemmas
-pub mod Written
-pub mod WrittenLines
 pub mod Tables
 pub mod SetLemmas
 pub mod LineLaws

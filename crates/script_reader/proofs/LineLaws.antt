@@ -9,22 +9,23 @@ use Rattle.std.proofs.Math.Dec.{eqb-suc-zero}
 use Rattle.vfs_model.specs.Paths.{Path}
 use Rattle.std.proofs.lemmas.Slice.Eq.{bytes_eq-Decides}
 use Rattle.world_model.specs.declared.edit.Edit.TheVariants.{Write, Mkdir, Remove, Move}
-use Rattle.script_reader.specs.declared.cause.Cause.TheVariants as causes
-use Rattle.script_reader.specs.declared.script.TextKind.{TextKind}
-use Rattle.script_reader.specs.declared.script.Opening.{Opening}
-use Rattle.script_reader.specs.declared.script.Opening.TheVariants.{Case, Queue, Places, Workers, Dir, File}
-use Rattle.script_reader.specs.declared.script.Command.{Command}
-use Rattle.script_reader.specs.declared.script.Command.TheVariants.{Edit, Event, Lose, Deliver, Settle, Begin, Read, Publish, Abandon, Scan, Find, KindOf, VersionOf}
-use Rattle.script_reader.specs.declared.script.Line.{Line}
-use Rattle.script_reader.specs.declared.script.Script.{Script}
-use Rattle.script_reader.specs.Gives.{◌>>=◌}
+use Rattle.script_text.specs.declared.cause.Cause.TheVariants as causes
+use Rattle.script_text.specs.declared.script.TextKind.{TextKind}
+use Rattle.script_text.specs.declared.script.Opening.{Opening}
+use Rattle.script_text.specs.declared.script.Opening.TheVariants.{Case, Queue, Places, Workers, Dir, File}
+use Rattle.script_text.specs.declared.script.Command.{Command}
+use Rattle.script_text.specs.declared.script.Command.TheVariants.{Edit, Event, Lose, Deliver, Settle, Begin, Read, Publish, Abandon, Scan, Find, KindOf, VersionOf}
+use Rattle.script_text.specs.declared.script.Line.{Line}
+use Rattle.script_text.specs.declared.script.Script.{Script}
+use Rattle.script_text.specs.Steps.{◌>>=◌}
 use Rattle.script_reader.specs.Numbers.{number_of}
-use Rattle.script_reader.specs.Words.{is_note, words_of}
-use Rattle.script_reader.specs.Set.{is_same_setting}
+use Rattle.script_text.specs.Words.{is_note, words_of}
+use Rattle.script_text.specs.Set.{is_same_setting}
 use Rattle.script_reader.specs.Forms.{opening_of, command_of}
-use Rattle.script_reader.specs.Reading.{is_in, with_opening, with_line, caller_from, with_setting, with_command, with_words, after_line}
-use Rattle.script_reader.specs.Grammar.{IsPathForm, IsFileForm, IsNumberForm, IsOpening, IsCommand, HasWords, IsOpeningLine, IsCommandLine}
-use Rattle.script_reader.proofs.NumberLemmas.{decimal_of_number, number_of_decimal, digits_of_decimal}
+use Rattle.script_text.specs.Grammar.{is_in, IsPathForm, IsFileForm, IsNumberForm, IsOpening, IsCommand, HasWords, IsOpeningLine, IsCommandLine}
+use Rattle.script_reader.specs.Reading.{with_opening, with_line, caller_from, with_setting, with_command, with_words, after_line}
+use Rattle.script_reader.proofs.NumberLemmas.{decimal_of_number, number_of_decimal}
+use Rattle.script_text.proofs.Digits.{digits_of_decimal}
 use Rattle.script_reader.proofs.Tables.{bind_ok, ok_is, guard_ok, passed_ok, opening_is, opening_again, command_is, command_again}
 
 -- what a line adds

@@ -1,11 +1,12 @@
 -- What the loops keep: what was read, and what is left.
 use Rattle.std.proofs.Common.{◌≡◌, ℕ, ◌+◌, List, [], ◌∷◌, ◌++◌, length, Option, Some, None, Result, Ok, Err, refl, sym, ap, ◌∙◌, append_assoc}
 use Rattle.std.proofs.lemmas.List.{append-nil}
-use Rattle.script_reader.specs.declared.cause.Cause.{Cause}
-use Rattle.script_reader.specs.declared.cause.LineError.{LineError}
-use Rattle.script_reader.specs.declared.cause.LineError.TheVariants as errors
-use Rattle.script_reader.specs.Gives.{◌>>=◌, Fails}
-use Rattle.script_reader.specs.Words.{value_of, values_of}
+use Rattle.script_text.specs.declared.cause.Cause.{Cause}
+use Rattle.script_reader.specs.declared.error.LineError.{LineError}
+use Rattle.script_reader.specs.declared.error.LineError.TheVariants as errors
+use Rattle.script_text.specs.Steps.{◌>>=◌}
+use Rattle.script_reader.specs.Gives.{Fails}
+use Rattle.script_text.specs.Words.{value_of, values_of}
 
 -- how much is left to cut
 abbrev pub left_len : Option (List ℕ) → ℕ

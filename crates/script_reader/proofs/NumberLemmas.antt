@@ -1,18 +1,11 @@
 -- Numbers are read as they are written.
-use Rattle.std.proofs.Common.{◌≡◌, ℕ, ◌+◌, ◌-◌, ◌*◌, ◌^◌, ◌<◌, ◌≤◌, Bool, true, false, cond, eqb, ltb, leb, ◌&&◌, ◌||◌, List, [], ◌∷◌, length, get_or, Option, Some, None, refl, sym, ap, ◌∙◌, arith, rules, inl, inr, ◌⊎◌}
+use Rattle.std.proofs.Common.{◌≡◌, ℕ, ◌+◌, ◌-◌, ◌*◌, ◌^◌, ◌<◌, ◌≤◌, Bool, true, false, cond, eqb, ltb, leb, ◌&&◌, ◌||◌, List, [], ◌∷◌, length, get_or, Option, Some, None, refl, sym, ap, ◌∙◌, arith, inl, inr, ◌⊎◌}
 use Rattle.std.specs.Fmt.{decimal}
 use Rattle.std.specs.Str.{all_ascii_digits}
-use Rattle.std.proofs.lemmas.Str.Parse.{IsNumeralModel, numerals_by_fold}
 use Rattle.std.proofs.lemmas.Fmt.{decimal-digits_value, digits_decimal, digits_value-decimal, decimal_nonempty, first_decimal, decimal_digit}
 use Rattle.std.proofs.lemmas.Bool.{cases_lt, leb-true, le-leb, ltb-false, eqb-false, ne_eqb}
 use Rattle.script_reader.specs.Numbers.{digits_after, number_of, has_leading_zero}
-
-abbrev read_on : ℕ → List ℕ → ℕ
-read_on n [] = n
-read_on n (c ∷ cs) = read_on (10 * n + (c - 48)) cs
-
-own : IsNumeralModel (λ ds. all_ascii_digits ds ≡ true) (read_on 0)
-own = numerals_by_fold _ (search rules) read_on (search rules)
+use Rattle.script_text.proofs.Digits.{read_on, own, both}
 
 record IsRead (n : ℕ) (cs : List ℕ) (m : ℕ) : Type 0 where
   digits : all_ascii_digits cs ≡ true
@@ -37,11 +30,6 @@ after_is n (c ∷ cs) m e =
 not_below : (n : ℕ) (cs : List ℕ) → n ≤ read_on n cs
 not_below n [] = omega arith
 not_below n (c ∷ cs) = omega (arith, not_below (10 * n + (c - 48)) cs)
-
-pub both : (a b : Bool) → (a && b) ≡ true → (a ≡ true) × (b ≡ true)
-both true true e = (refl, refl)
-both true false e = absurd cc
-both false b e = absurd cc
 
 after_back : (n : ℕ) (cs : List ℕ) → all_ascii_digits cs ≡ true → read_on n cs ≤ 4294967295 → digits_after n cs ≡ Some (read_on n cs)
 after_back n [] d le = refl
@@ -106,6 +94,3 @@ number_of_decimal n lt =
     let not_empty : eqb (length (decimal n)) 0 ≡ false = ne_eqb (length (decimal n)) 0 (λ e. absurd (omega arith)) in
     let read : digits_after 0 (decimal n) ≡ Some (read_on 0 (decimal n)) = after_back 0 (decimal n) digits (omega arith) in
     rw (not_empty, no_lead n lt) (read ∙ ap (λ (m : ℕ). Some m) value)
-
-pub digits_of_decimal : (n : ℕ) → n < 2 ^ 32 → all_ascii_digits (decimal n) ≡ true
-digits_of_decimal n lt = digits_decimal own n (omega arith)

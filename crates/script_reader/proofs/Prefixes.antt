@@ -1,14 +1,15 @@
 -- What a prefix of a text is.
-use Rattle.script_reader.specs.declared.script.TextKind.{TextKind}
+use Rattle.script_text.specs.declared.script.TextKind.{TextKind}
 use Rattle.std.proofs.Common.{◌≡◌, ℕ, ◌+◌, Bool, true, false, cond, eqb, List, [], ◌∷◌, ◌++◌, length, Ok, MatchBool, refl, sym, ap, subst, ◌∙◌, append_assoc, arith}
 use Rattle.std.specs.List.{slice_split, onto_first, count_by}
 use Rattle.std.proofs.lemmas.List.Splits.{length-slice_split}
 use Rattle.std.proofs.lemmas.List.{length-append}
 use Rattle.std.proofs.Math.Dec.{eqb-suc-zero}
-use Rattle.script_reader.specs.declared.cause.Cause.TheVariants as causes
-use Rattle.script_reader.specs.declared.script.Script.{Script}
-use Rattle.script_reader.specs.Reading.{no_lines, after_line, is_line_end}
-use Rattle.script_reader.specs.Grammar.{IsTextOf, FirstBad, unended}
+use Rattle.script_text.specs.declared.cause.Cause.TheVariants as causes
+use Rattle.script_text.specs.declared.script.Script.{Script}
+use Rattle.script_reader.specs.Reading.{no_lines, after_line}
+use Rattle.script_text.specs.Grammar.{is_line_end, IsTextOf}
+use Rattle.script_reader.specs.Faults.{FirstBad, unended}
 use Rattle.script_reader.specs.Laws.{is_ended}
 use Rattle.vfs_path.proofs.Cuts.{split_some}
 use Rattle.script_reader.proofs.TextLaws.{after_lines, line_ok, parts_of_text, script_run, run_is_script, snoc_of, snoc_some}

@@ -5,9 +5,9 @@ use Rattle.std.proofs.lemmas.List.Folds.{list_any-append}
 use Rattle.vfs_model.specs.Paths.{Path}
 use Rattle.std.specs.Prelude.{ℕ}
 use Rattle.world_model.specs.declared.settings.Settings.{Settings}
-use Rattle.script_reader.specs.declared.script.Opening.{Opening}
-use Rattle.script_reader.specs.declared.script.Opening.TheVariants.{Dir, File}
-use Rattle.script_reader.specs.Set.{with_set, settings_after, is_same_setting, IsOnce}
+use Rattle.script_text.specs.declared.script.Opening.{Opening}
+use Rattle.script_text.specs.declared.script.Opening.TheVariants.{Dir, File}
+use Rattle.script_text.specs.Set.{with_set, settings_after, is_same_setting, IsOnce}
 
 pub settings_more : (s : Settings) (xs ys : List Opening) → settings_after s (xs ++ ys) ≡ settings_after (settings_after s xs) ys
 settings_more s [] ys = refl

@@ -12,17 +12,18 @@ use Rattle.vfs_model.specs.Paths.{Path}
 use Rattle.vfs_path.specs.declared.error.PathError.{PathError}
 use Rattle.vfs_path.specs.Texts.{IsPath, path_of, path_text}
 use Rattle.world_model.specs.declared.edit.Edit.TheVariants.{Write, Mkdir, Remove, Move}
-use Rattle.script_reader.specs.declared.cause.Cause.{Cause}
-use Rattle.script_reader.specs.declared.cause.Cause.TheVariants as causes
-use Rattle.script_reader.specs.declared.script.Opening.{Opening}
-use Rattle.script_reader.specs.declared.script.Opening.TheVariants.{Case, Queue, Places, Workers, Dir, File}
-use Rattle.script_reader.specs.declared.script.Command.{Command}
-use Rattle.script_reader.specs.declared.script.Command.TheVariants.{Edit, Event, Lose, Deliver, Settle, Begin, Read, Publish, Abandon, Scan, Find, KindOf, VersionOf}
-use Rattle.script_reader.specs.Gives.{◌>>=◌}
+use Rattle.script_text.specs.declared.cause.Cause.{Cause}
+use Rattle.script_text.specs.declared.cause.Cause.TheVariants as causes
+use Rattle.script_text.specs.declared.script.Opening.{Opening}
+use Rattle.script_text.specs.declared.script.Opening.TheVariants.{Case, Queue, Places, Workers, Dir, File}
+use Rattle.script_text.specs.declared.script.Command.{Command}
+use Rattle.script_text.specs.declared.script.Command.TheVariants.{Edit, Event, Lose, Deliver, Settle, Begin, Read, Publish, Abandon, Scan, Find, KindOf, VersionOf}
+use Rattle.script_text.specs.Steps.{◌>>=◌}
 use Rattle.script_reader.specs.Numbers.{number_of}
 use Rattle.script_reader.specs.Forms.{Form, or_bad_path, path_from, content_from, file_from, within, case_from, no_more, one_path, two_paths, one_file, one_number, one_case, alone, with_path, with_two_paths, with_file, with_number, with_case, form_named, unknown, opening_forms, plain_forms, edit_forms, path_forms, opening_of, plain_command_of, path_command_of, command_of}
-use Rattle.script_reader.specs.Grammar.{IsFileForm, IsPathForm, IsTwoPathForm, IsNumberForm, case_word, IsCaseForm, IsOpening, IsCommand}
-use Rattle.script_reader.proofs.NumberLemmas.{both, decimal_of_number, number_of_decimal}
+use Rattle.script_text.specs.Grammar.{IsFileForm, IsPathForm, IsTwoPathForm, IsNumberForm, case_word, IsCaseForm, IsOpening, IsCommand}
+use Rattle.script_text.proofs.Digits.{both}
+use Rattle.script_reader.proofs.NumberLemmas.{decimal_of_number, number_of_decimal}
 use Rattle.vfs_path.proofs.TextLaws.{path_text-from_text, IsPath-from_text, path_of-path_text}
 
 -- ---- steps that did not fail

@@ -1,23 +1,26 @@
 -- Whole texts: what is read is the script of the text, and a fault is at the first bad line.
-use Rattle.script_reader.specs.declared.script.TextKind.{TextKind}
+use Rattle.script_text.specs.declared.script.TextKind.{TextKind}
+use Rattle.script_text.specs.declared.script.TextKind.TheVariants.{Replay}
 use Rattle.std.proofs.Common.{◌≡◌, ℕ, suc, ◌+◌, true, false, cond, eqb, List, [], ◌∷◌, ◌++◌, length, Result, Ok, Err, refl, sym, ap, subst, ◌∙◌, append_assoc, arith, inl, inr, ◌⊎◌}
 use Rattle.std.specs.List.{slice_split}
 use Rattle.std.proofs.lemmas.List.{append-nil}
 use Rattle.std.proofs.Math.Dec.{eqb-suc-zero}
-use Rattle.script_reader.specs.declared.cause.Cause.{Cause}
-use Rattle.script_reader.specs.declared.cause.Cause.TheVariants as causes
+use Rattle.script_text.specs.declared.cause.Cause.{Cause}
+use Rattle.script_text.specs.declared.cause.Cause.TheVariants as causes
 use Rattle.std.specs.Prelude.{IfOk, IfErr}
-use Rattle.script_reader.specs.declared.cause.BadLine.{BadLine}
-use Rattle.script_reader.specs.declared.cause.ScriptError.{ScriptError}
-use Rattle.script_reader.specs.declared.cause.ScriptError.TheVariants as errors
+use Rattle.script_text.specs.declared.cause.BadLine.{BadLine}
+use Rattle.script_reader.specs.declared.error.ScriptError.{ScriptError}
+use Rattle.script_reader.specs.declared.error.ScriptError.TheVariants as errors
 use Rattle.script_reader.specs.Results.{IfBad, IsScriptOrNoMemory, IsBadOrNoMemory}
-use Rattle.script_reader.specs.declared.script.Opening.{Opening}
-use Rattle.script_reader.specs.declared.script.Line.{Line}
-use Rattle.script_reader.specs.declared.script.Script.{Script}
-use Rattle.script_reader.specs.Gives.{◌>>=◌}
-use Rattle.script_reader.specs.Set.{settings_of, settings_after, with_set, IsOnce}
-use Rattle.script_reader.specs.Reading.{no_lines, with_line, after_line, at_line, after_parts, is_line_end, script_of, Reads}
-use Rattle.script_reader.specs.Grammar.{IsOpeningLine, IsCommandLine, AreLines, none, note, line, AreScript, IsTextOf, FirstBad, unended, ended}
+use Rattle.script_text.specs.declared.script.Opening.{Opening}
+use Rattle.script_text.specs.declared.script.Line.{Line}
+use Rattle.script_text.specs.declared.script.Script.{Script}
+use Rattle.script_text.specs.Steps.{◌>>=◌}
+use Rattle.script_text.specs.Set.{settings_of, settings_after, with_set, IsOnce}
+use Rattle.script_reader.specs.Reading.{no_lines, with_line, after_line, at_line, after_parts, script_of, Reads}
+use Rattle.script_text.specs.Grammar.{is_line_end, IsOpeningLine, IsCommandLine, AreLines, none, note, line, AreScript, IsTextOf}
+use Rattle.script_reader.specs.Faults.{FirstBad, unended, ended}
+use Rattle.script_text.specs.Writing.{HasText}
 use Rattle.world_model.specs.declared.settings.Settings.{Settings}
 use Rattle.world_model.specs.Defaults.{default_settings}
 use Rattle.script_reader.proofs.SetLemmas.{settings_more, once_in_middle, once_with_last}
@@ -384,3 +387,8 @@ pub one_fault : (kind : TextKind) (text : List ℕ) (b d : BadLine) → FirstBad
 one_fault kind text b d h g =
     let e = fault_again kind text b h in
     let f = fault_again kind text d g in cc
+
+-- a script that was read has a text
+pub HasText-found : (text : List ℕ) (r : Result Script ScriptError) → IfOk r (λ s. IsTextOf Replay text s) → IfOk r HasText
+HasText-found text (Ok s) h = (text, h)
+HasText-found text (Err e) h = tt

@@ -12,20 +12,20 @@ use Rattle.vfs_model.specs.declared.Case.TheVariants.{Sensitive, Insensitive}
 use Rattle.vfs_model.specs.Paths.{Path}
 use Rattle.vfs_path.specs.declared.error.PathError.{PathError}
 use Rattle.vfs_path.specs.Texts.{path_of, is_empty}
-use Rattle.script_reader.specs.declared.cause.Cause.{Cause}
-use Rattle.script_reader.specs.declared.cause.Cause.TheVariants.{UnknownWord, WrongCount, BadNumber, BadPath, TooLarge, EmptyWord, BadEscape, BadCaller, LateSetting, Repeated}
-use Rattle.script_reader.specs.declared.script.TextKind.{TextKind}
-use Rattle.script_reader.specs.declared.script.TextKind.TheVariants.{Replay}
-use Rattle.script_reader.specs.declared.script.Opening.{Opening}
-use Rattle.script_reader.specs.declared.script.Opening.TheVariants as openings
-use Rattle.script_reader.specs.declared.script.Script.{Script}
-use Rattle.script_reader.specs.Gives.{◌>>=◌}
+use Rattle.script_text.specs.declared.cause.Cause.{Cause}
+use Rattle.script_text.specs.declared.cause.Cause.TheVariants.{UnknownWord, WrongCount, BadNumber, BadPath, TooLarge, EmptyWord, BadEscape, BadCaller, LateSetting, Repeated}
+use Rattle.script_text.specs.declared.script.TextKind.{TextKind}
+use Rattle.script_text.specs.declared.script.TextKind.TheVariants.{Replay}
+use Rattle.script_text.specs.declared.script.Opening.{Opening}
+use Rattle.script_text.specs.declared.script.Opening.TheVariants as openings
+use Rattle.script_text.specs.declared.script.Script.{Script}
+use Rattle.script_text.specs.Steps.{◌>>=◌}
 use Rattle.script_reader.specs.Numbers.{number_of}
-use Rattle.script_reader.specs.Words.{is_note, hex_of, hex_pair, named_before, value_of, values_of, words_of}
+use Rattle.script_text.specs.Words.{is_note, hex_of, hex_pair, named_before, value_of, values_of, words_of}
 use Rattle.script_reader.specs.Forms.{Form, or_bad_path, path_from, content_from, file_from, within, case_from, two_paths, one_file, alone, with_path, with_two_paths, with_file, with_number, with_case, form_named, unknown, opening_forms, plain_forms, edit_forms, path_forms, opening_of, plain_command_of, path_command_of, command_of}
 use Rattle.script_reader.specs.Reading.{with_opening, with_line, caller_from, with_setting, with_command, with_words, after_line}
-use Rattle.script_reader.specs.Set.{is_same_setting}
-use Rattle.script_reader.specs.Grammar.{case_word, IsOpening, IsCommand}
+use Rattle.script_text.specs.Set.{is_same_setting}
+use Rattle.script_text.specs.Grammar.{case_word, IsOpening, IsCommand}
 use Rattle.script_reader.specs.Holds.{HasOne, IsNoNumber, HasBadNumber, case, queue, places, workers, HoldsOfWords, Holds, empty, escape, caller, late, number, repeated, setting, command}
 use Rattle.script_reader.proofs.NumberLemmas.{decimal_of_number, number_of_decimal}
 use Rattle.script_reader.proofs.Tables.{bind_ok, done, ok_is, path_from_again, opening_is, opening_again, command_is, command_again}

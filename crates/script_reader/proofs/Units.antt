@@ -1,20 +1,10 @@
--- Units of words.
-use Rattle.std.proofs.Common.{◌≡◌, ℕ, ◌-◌, ◌<◌, ◌≤◌, false, eqb, List, [], ◌∷◌, length, get_or, take, drop, Option, Some, None, Result, Ok, Err, refl, sym, ap, arith}
+-- Escapes in words.
+use Rattle.std.proofs.Common.{◌≡◌, ℕ, ◌-◌, ◌<◌, ◌≤◌, List, [], ◌∷◌, length, get_or, take, drop, Option, Some, None, Result, Ok, Err, refl, sym, ap, arith}
 use Rattle.std.proofs.lemmas.List.{take_all}
-use Rattle.std.proofs.lemmas.Bool.{ne_eqb}
-use Rattle.script_reader.specs.declared.cause.Cause.{Cause}
-use Rattle.script_reader.specs.declared.cause.Cause.TheVariants.{BadEscape}
-use Rattle.script_reader.specs.Gives.{◌>>=◌}
-use Rattle.script_reader.specs.Words.{value_of, hex_of, hex_pair, named_before}
-
-front_is : (b : ℕ) (rest : List ℕ) → eqb b 37 ≡ false → value_of (b ∷ rest) ≡ (value_of rest >>= λ bs. Ok (b ∷ bs))
-unfolding value_of
-front_is b [] e = rw e refl
-front_is b (h ∷ []) e = rw e refl
-front_is b (h ∷ l ∷ rest) e = rw e refl
-
-pub plain_unit : (bytes : List ℕ) (b : ℕ) (rest : List ℕ) → bytes ≡ b ∷ rest → (b ≡ 37 → ⊥) → value_of bytes ≡ (value_of rest >>= λ bs. Ok (b ∷ bs))
-plain_unit bytes b rest e ne = rw e (front_is b rest (ne_eqb b 37 ne))
+use Rattle.script_text.specs.declared.cause.Cause.{Cause}
+use Rattle.script_text.specs.declared.cause.Cause.TheVariants.{BadEscape}
+use Rattle.script_text.specs.Steps.{◌>>=◌}
+use Rattle.script_text.specs.Words.{value_of, hex_of, hex_pair, named_before}
 
 short : (rest : List ℕ) → length rest < 2 → value_of (37 ∷ rest) ≡ Err BadEscape
 unfolding value_of

@@ -1,14 +1,15 @@
 -- A text, line by line.
-use Rattle.script_reader.specs.declared.script.TextKind.{TextKind}
+use Rattle.script_text.specs.declared.script.TextKind.{TextKind}
 use Rattle.std.proofs.Common.{◌≡◌, ℕ, ◌+◌, true, false, eqb, List, [], ◌∷◌, length, Result, Ok, Err, refl, sym, ◌∙◌}
 use Rattle.std.specs.List.{slice_split}
 use Rattle.vfs_path.proofs.Cuts.{split_some}
-use Rattle.script_reader.specs.declared.cause.Cause.{Cause}
-use Rattle.script_reader.specs.declared.cause.Cause.TheVariants.{NoLineEnd}
-use Rattle.script_reader.specs.declared.cause.BadLine.{BadLine}
-use Rattle.script_reader.specs.declared.script.Script.{Script}
-use Rattle.script_reader.specs.Gives.{◌>>=◌}
-use Rattle.script_reader.specs.Reading.{after_line, after_parts, at_line, is_line_end}
+use Rattle.script_text.specs.declared.cause.Cause.{Cause}
+use Rattle.script_text.specs.declared.cause.Cause.TheVariants.{NoLineEnd}
+use Rattle.script_text.specs.declared.cause.BadLine.{BadLine}
+use Rattle.script_text.specs.declared.script.Script.{Script}
+use Rattle.script_text.specs.Steps.{◌>>=◌}
+use Rattle.script_reader.specs.Reading.{after_line, after_parts, at_line}
+use Rattle.script_text.specs.Grammar.{is_line_end}
 
 -- a line, and what follows it
 pub line_step : (kind : TextKind) (n : ℕ) (s : Script) (parts : List (List ℕ)) (line rest : List ℕ) → parts ≡ line ∷ slice_split is_line_end rest

@@ -1,14 +1,8 @@
 -- What a function of the code gives, where memory may run out.
 use Rattle.std.specs.Prelude.{◌≡◌, Result, Ok, Err}
-use Rattle.script_reader.specs.declared.cause.Cause.{Cause}
-use Rattle.script_reader.specs.declared.cause.LineError.{LineError}
-use Rattle.script_reader.specs.declared.cause.LineError.TheVariants as errors
-
--- the next step of a reading, unless there is a cause already
-infixl 10 ◌>>=◌
-abbrev pub ◌>>=◌ : {A B E : Type 0} → Result A E → (A → Result B E) → Result B E
-(Ok x) >>= f = f x
-(Err e) >>= f = Err e
+use Rattle.script_text.specs.declared.cause.Cause.{Cause}
+use Rattle.script_reader.specs.declared.error.LineError.{LineError}
+use Rattle.script_reader.specs.declared.error.LineError.TheVariants as errors
 
 -- the error is the cause that the reading gives, or want of memory
 abbrev pub Fails : {X : Type 0} → LineError → Result X Cause → Type 0

@@ -4,13 +4,13 @@ use Rattle.std.specs.List.{slice_split}
 use Rattle.std.specs.Fmt.{decimal}
 use Rattle.vfs_model.specs.declared.Case.{Case}
 use Rattle.vfs_path.specs.Texts.{path_of}
-use Rattle.script_reader.specs.declared.cause.Cause.{Cause}
-use Rattle.script_reader.specs.declared.cause.Cause.TheVariants.{UnknownWord, WrongCount, BadNumber, BadPath, TooLarge, EmptyWord, BadEscape, BadCaller, LateSetting, Repeated}
-use Rattle.script_reader.specs.declared.script.Opening.{Opening}
-use Rattle.script_reader.specs.declared.script.Script.{Script}
-use Rattle.script_reader.specs.Words.{value_of, words_of}
-use Rattle.script_reader.specs.Set.{is_same_setting}
-use Rattle.script_reader.specs.Grammar.{case_word, IsOpening, IsCommand}
+use Rattle.script_text.specs.declared.cause.Cause.{Cause}
+use Rattle.script_text.specs.declared.cause.Cause.TheVariants.{UnknownWord, WrongCount, BadNumber, BadPath, TooLarge, EmptyWord, BadEscape, BadCaller, LateSetting, Repeated}
+use Rattle.script_text.specs.declared.script.Opening.{Opening}
+use Rattle.script_text.specs.declared.script.Script.{Script}
+use Rattle.script_text.specs.Words.{value_of, words_of}
+use Rattle.script_text.specs.Set.{is_same_setting}
+use Rattle.script_text.specs.Grammar.{case_word, IsOpening, IsCommand}
 
 -- one of the items is such
 abbrev pub HasOne : {A : Type 0} → (A → Type 0) → List A → Type 0

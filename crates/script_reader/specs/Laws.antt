@@ -2,20 +2,20 @@
 use Rattle.std.specs.Prelude.{◌≡◌, ℕ, ◌+◌, ◌<◌, ◌^◌, List, [], ◌∷◌, ◌++◌, Bool, true, false, Some, Ok, Err, ◌↔◌, ◌⊎◌, MatchBool}
 use Rattle.std.specs.List.{count_by}
 use Rattle.std.specs.Fmt.{decimal}
-use Rattle.script_reader.specs.declared.cause.Cause.{Cause}
-use Rattle.script_reader.specs.declared.cause.BadLine.{BadLine}
-use Rattle.script_reader.specs.declared.script.TextKind.{TextKind}
-use Rattle.script_reader.specs.declared.script.Opening.{Opening}
-use Rattle.script_reader.specs.declared.script.Command.{Command}
-use Rattle.script_reader.specs.declared.script.Script.{Script}
+use Rattle.script_text.specs.declared.cause.Cause.{Cause}
+use Rattle.script_text.specs.declared.cause.BadLine.{BadLine}
+use Rattle.script_text.specs.declared.script.TextKind.{TextKind}
+use Rattle.script_text.specs.declared.script.Opening.{Opening}
+use Rattle.script_text.specs.declared.script.Command.{Command}
+use Rattle.script_text.specs.declared.script.Script.{Script}
 use Rattle.script_reader.specs.Numbers.{number_of}
 use Rattle.script_reader.specs.Forms.{opening_of, command_of}
-use Rattle.script_reader.specs.declared.cause.Cause.TheVariants.{NoLineEnd}
-use Rattle.script_reader.specs.Reading.{is_line_end, after_line, script_of}
-use Rattle.script_reader.specs.Words.{is_note}
+use Rattle.script_text.specs.declared.cause.Cause.TheVariants.{NoLineEnd}
+use Rattle.script_text.specs.Grammar.{is_line_end, IsOpening, IsCommand, IsTextOf}
+use Rattle.script_reader.specs.Reading.{after_line, script_of}
+use Rattle.script_text.specs.Words.{is_note}
 use Rattle.script_reader.specs.Holds.{Holds}
-use Rattle.script_reader.specs.Grammar.{IsOpening, IsCommand, IsTextOf, FirstBad}
-use Rattle.script_reader.specs.Writing.{text_of}
+use Rattle.script_reader.specs.Faults.{FirstBad}
 
 -- a word is read as a number exactly where it is the number's decimal spelling
 abbrev pub NumbersAreDecimal : Type 0
@@ -59,7 +59,3 @@ is_ended (b ∷ c ∷ more) = is_ended (c ∷ more)
 abbrev pub PrefixesAreJudged : Type 0
 PrefixesAreJudged = (kind : TextKind) (front back : List ℕ) (s : Script) → IsTextOf kind (front ++ back) s
     → MatchBool (is_ended front) ((t : Script) × IsTextOf kind front t) (FirstBad kind front (record { line = count_by is_line_end front + 1; cause = NoLineEnd }))
-
--- what is written for a script that has a text is a text of it, of the same kind
-abbrev pub WrittenTextsAreTexts : Type 0
-WrittenTextsAreTexts = (kind : TextKind) (text : List ℕ) (s : Script) → IsTextOf kind text s → IsTextOf kind (text_of s) s

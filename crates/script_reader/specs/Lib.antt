@@ -1,13 +1,9 @@
-pub mod Causes
 pub mod Gives
 pub mod Numbers
-pub mod Spelling
-pub mod Words
-pub mod Set
+pub mod Pieces
 pub mod Forms
 pub mod Reading
-pub mod Grammar
-pub mod Writing
+pub mod Faults
 pub mod Holds
 pub mod Results
 pub mod Laws

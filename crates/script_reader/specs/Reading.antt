@@ -1,29 +1,25 @@
 -- A text as a script, or the first line that no script has there.
-use Rattle.std.specs.Prelude.{◌≡◌, ℕ, ◌+◌, List, [], ◌∷◌, ◌++◌, length, Bool, true, Option, Some, None, Result, Ok, Err, nat_le, ◌==◌, if◌then◌else◌, codes}
+use Rattle.std.specs.Prelude.{◌≡◌, ℕ, ◌+◌, List, [], ◌∷◌, ◌++◌, length, Option, Some, None, Result, Ok, Err, nat_le, ◌==◌, if◌then◌else◌, codes}
 use Rattle.std.specs.List.{slice_split, list_any}
 use Rattle.std.specs.Str.{bytes_eq}
-use Rattle.script_reader.specs.declared.cause.Cause.{Cause}
-use Rattle.script_reader.specs.declared.cause.Cause.TheVariants as causes
-use Rattle.script_reader.specs.declared.cause.BadLine.{BadLine}
-use Rattle.script_reader.specs.declared.cause.LineError.{LineError}
-use Rattle.script_reader.specs.declared.cause.ScriptError.{ScriptError}
-use Rattle.script_reader.specs.declared.cause.ScriptError.TheVariants as errors
-use Rattle.script_reader.specs.declared.script.TextKind.{TextKind}
-use Rattle.script_reader.specs.declared.script.TextKind.TheVariants as kinds
-use Rattle.script_reader.specs.declared.script.Command.{Command}
-use Rattle.script_reader.specs.declared.script.Opening.{Opening}
-use Rattle.script_reader.specs.declared.script.Line.{Line}
-use Rattle.script_reader.specs.declared.script.Script.{Script}
-use Rattle.script_reader.specs.Gives.{◌>>=◌, Fails}
+use Rattle.script_text.specs.declared.cause.Cause.{Cause}
+use Rattle.script_text.specs.declared.cause.Cause.TheVariants as causes
+use Rattle.script_text.specs.declared.cause.BadLine.{BadLine}
+use Rattle.script_reader.specs.declared.error.LineError.{LineError}
+use Rattle.script_reader.specs.declared.error.ScriptError.{ScriptError}
+use Rattle.script_reader.specs.declared.error.ScriptError.TheVariants as errors
+use Rattle.script_text.specs.declared.script.TextKind.{TextKind}
+use Rattle.script_text.specs.declared.script.Opening.{Opening}
+use Rattle.script_text.specs.declared.script.Line.{Line}
+use Rattle.script_text.specs.declared.script.Script.{Script}
+use Rattle.script_text.specs.Steps.{◌>>=◌}
+use Rattle.script_reader.specs.Gives.{Fails}
 use Rattle.script_reader.specs.Numbers.{number_of}
-use Rattle.script_reader.specs.Words.{is_note, words_of}
+use Rattle.script_text.specs.Words.{is_note, words_of}
 use Rattle.world_model.specs.Defaults.{default_settings}
-use Rattle.script_reader.specs.Set.{with_set, is_same_setting}
+use Rattle.script_text.specs.Set.{with_set, is_same_setting}
+use Rattle.script_text.specs.Grammar.{is_in, is_line_end}
 use Rattle.script_reader.specs.Forms.{opening_of, command_of}
-
--- whether a text of this kind may have the command: a replay may have every command
-abbrev pub is_in : TextKind → Command → Bool
-is_in kinds.Replay command = true
 
 -- the script before its first line
 abbrev pub no_lines : Script
@@ -75,10 +71,6 @@ unfoldable pub after_parts : TextKind → ℕ → Script → List (List ℕ) →
 after_parts kind n before [] = Ok before
 after_parts kind n before (last ∷ []) = if length last == 0 then Ok before else Err (record { line = n; cause = causes.NoLineEnd })
 after_parts kind n before (line ∷ next ∷ more) = at_line n (after_line kind before line) >>= λ after. after_parts kind (n + 1) after (next ∷ more)
-
--- a line feed
-abbrev pub is_line_end : ℕ → Bool
-is_line_end b = b == 10
 
 -- the script of a text, or its first bad line
 unfoldable pub script_of : TextKind → List ℕ → Result Script BadLine

@@ -1,9 +1,9 @@
 -- The results of reading, in words.
 use Rattle.std.specs.Prelude.{◌≡◌, Result, Ok, Err}
-use Rattle.script_reader.specs.declared.cause.BadLine.{BadLine}
-use Rattle.script_reader.specs.declared.cause.ScriptError.{ScriptError}
-use Rattle.script_reader.specs.declared.cause.ScriptError.TheVariants.{Bad, NoMemory}
-use Rattle.script_reader.specs.declared.script.Script.{Script}
+use Rattle.script_text.specs.declared.cause.BadLine.{BadLine}
+use Rattle.script_reader.specs.declared.error.ScriptError.{ScriptError}
+use Rattle.script_reader.specs.declared.error.ScriptError.TheVariants.{Bad, NoMemory}
+use Rattle.script_text.specs.declared.script.Script.{Script}
 
 -- the fact holds of the bad line, where there is one
 abbrev pub IfBad : ScriptError → (BadLine → Type 0) → Type 0

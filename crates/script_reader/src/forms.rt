@@ -5,12 +5,12 @@ ghost use Rattle.script_reader.specs.Numbers.{number_of};
 ghost use Rattle.script_reader.specs.Gives.{Gives};
 ghost use Rattle.script_reader.specs.Forms.{path_from, content_from, file_from, within, case_from, no_more, one_path, two_paths, one_file, one_number, one_case, opening_of, plain_command_of, path_command_of, command_of};
 
-use crate::cause::{Cause, LineError};
+use crate::error::LineError;
 use crate::numbers::number_of;
-use crate::script::{Command, Opening};
 use crate::words::Word;
 use case_order::Case;
 use merkle_hash::Bytes;
+use script_text::{Cause, Command, Opening};
 use std::alloc::Global;
 use vfs_path::{Path, PathError};
 use world_model::Edit;

@@ -1,6 +1,6 @@
 //! Laws of scripts, which are about texts alone.
 
-ghost use Rattle.script_reader.specs.Laws.{NumbersAreDecimal, OpeningsAreRead, CommandsAreRead, TextsAreRead, FaultsAreFirst, TextsAreDecided, TextsAreUnambiguous, CausesHold, PrefixesAreJudged, WrittenTextsAreTexts};
+ghost use Rattle.script_reader.specs.Laws.{NumbersAreDecimal, OpeningsAreRead, CommandsAreRead, TextsAreRead, FaultsAreFirst, TextsAreDecided, TextsAreUnambiguous, CausesHold, PrefixesAreJudged};
 
 /// A word is read as a number exactly where it is the number's decimal spelling.
 pub fn numbers_are_decimal()
@@ -42,9 +42,4 @@ pub fn causes_hold()
 /// other is bad at its last line, which is not ended.
 pub fn prefixes_are_judged()
     ensures { PrefixesAreJudged }
-{}
-
-/// What is written for a script is a text of it.
-pub fn written_texts_are_texts()
-    ensures { WrittenTextsAreTexts }
 {}

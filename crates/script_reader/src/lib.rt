@@ -1,22 +1,21 @@
-//! Scripts as text: reading one, or telling its first bad line and why it is bad; and writing one.
+//! Reading a script, or telling its first bad line and why it is bad.
+//!
+//! The public names of `script_text` are given here again.
 #![tactic(auto)]
 
-mod cause;
+mod error;
 mod forms;
 pub mod laws;
 mod numbers;
 mod reader;
-mod script;
-mod spelling;
 mod words;
-mod writer;
 
-pub use cause::{BadLine, Cause, ScriptError};
+pub use error::ScriptError;
 pub use reader::read_script;
-pub use script::{Command, Line, Lines, Opening, Openings, Script, TextKind};
-pub use spelling::put_spelled;
-pub use world_model::Settings;
-pub use writer::write_script;
+pub use script_text::{
+    BadLine, Cause, Command, Line, Lines, Opening, Openings, Script, Settings, TextKind,
+    put_spelled, write_script,
+};
 
 #[cfg(test)]
 mod tests;

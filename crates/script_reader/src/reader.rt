@@ -2,21 +2,22 @@
 
 ghost use Rattle.std.specs.Prelude.{◌≡◌, IfOk, IfErr};
 ghost use Rattle.std.specs.List.{list_any};
-ghost use Rattle.script_reader.specs.declared.script.Script.{Script};
-ghost use Rattle.script_reader.specs.declared.cause.BadLine.{BadLine};
+ghost use Rattle.script_text.specs.declared.script.Script.{Script};
+ghost use Rattle.script_text.specs.declared.cause.BadLine.{BadLine};
 ghost use Rattle.script_reader.specs.Gives.{Gives};
-ghost use Rattle.script_reader.specs.Set.{with_set, is_same_setting};
+ghost use Rattle.script_text.specs.Set.{with_set, is_same_setting};
 ghost use Rattle.script_reader.specs.Numbers.{number_of};
-ghost use Rattle.script_reader.specs.Reading.{is_in, Adds, Reads, caller_from, with_setting, with_command, with_words, after_line, script_of};
-ghost use Rattle.script_reader.specs.Grammar.{IsTextOf, FirstBad};
+ghost use Rattle.script_text.specs.Grammar.{is_in, IsTextOf};
+ghost use Rattle.script_reader.specs.Reading.{Adds, Reads, caller_from, with_setting, with_command, with_words, after_line, script_of};
+ghost use Rattle.script_reader.specs.Faults.{FirstBad};
 ghost use Rattle.script_reader.specs.Results.{IfBad, IsScriptOrNoMemory, IsBadOrNoMemory};
-ghost use Rattle.script_reader.specs.Writing.{HasText};
+ghost use Rattle.script_text.specs.Writing.{HasText};
 
-use crate::cause::{BadLine, Cause, LineError, ScriptError};
+use crate::error::{LineError, ScriptError};
 use crate::forms::{command_of, opening_of};
 use crate::numbers::number_of;
-use crate::script::{Command, Line, Lines, Opening, Openings, Script, TextKind};
 use crate::words::{Word, cut, is_note, words_of};
+use script_text::{BadLine, Cause, Command, Line, Lines, Opening, Openings, Script, TextKind};
 use std::alloc::Global;
 use world_model::Settings;
 

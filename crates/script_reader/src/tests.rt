@@ -422,26 +422,6 @@ fn keeps_to_the_limits(rt: HostRuntime) -> Result<(), Fail> {
     Ok(())
 }
 
-#[test]
-fn numbers_causes(rt: HostRuntime) {
-    let table = [
-        (Cause::NoLineEnd, 1),
-        (Cause::BadEscape, 2),
-        (Cause::EmptyWord, 3),
-        (Cause::UnknownWord, 4),
-        (Cause::BadCaller, 5),
-        (Cause::BadNumber, 6),
-        (Cause::Repeated, 7),
-        (Cause::LateSetting, 8),
-        (Cause::WrongCount, 9),
-        (Cause::BadPath(PathError::TooDeep), 10),
-        (Cause::TooLarge, 11),
-    ];
-    for (cause, number) in table {
-        assert_eq!(rt; cause.number(), number);
-    }
-}
-
 /// The script with lists that are shared.
 fn shared(script: &Script) -> Result<Script, NoMemory>
     ensures { IfOk result (λ copy. copy ≡ script.now) }

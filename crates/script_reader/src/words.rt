@@ -5,9 +5,11 @@ ghost use Rattle.std.specs.List.{slice_split, list_any};
 ghost use Rattle.std.specs.Option.{option_map, option_copied};
 ghost use Rattle.vfs_path.specs.Texts.{is_empty};
 ghost use Rattle.script_reader.specs.Gives.{Gives, GivesBy, Fails};
-ghost use Rattle.script_reader.specs.Words.{is_note, hex_of, hex_pair, value_of, words_of, values_of, parts_after, unit_and};
+ghost use Rattle.script_text.specs.Words.{is_note, hex_of, hex_pair, value_of, words_of, values_of};
+ghost use Rattle.script_reader.specs.Pieces.{parts_after, unit_and};
 
-use crate::cause::{Cause, LineError};
+use crate::error::LineError;
+use script_text::Cause;
 use std::alloc::Global;
 use std::marker::Model;
 
@@ -131,7 +133,7 @@ fn has_empty_word(line: &[u8]) -> bool
 }
 
 /// The words of a line.
-#[tactic(auto, unfolding(crate::specs::Words::words_of))]
+#[tactic(auto, unfolding(script_text::specs::Words::words_of))]
 pub(crate) fn words_of(alloc: Global, line: &[u8]) -> Result<Vec<Word>, LineError>
     ensures { GivesBy (λ words. words.items) result (words_of line.now) }
 {
@@ -141,7 +143,7 @@ pub(crate) fn words_of(alloc: Global, line: &[u8]) -> Result<Vec<Word>, LineErro
     values_of(alloc, line)
 }
 
-#[tactic(auto, unfolding(crate::specs::Words::values_of))]
+#[tactic(auto, unfolding(script_text::specs::Words::values_of))]
 fn values_of(alloc: Global, line: &[u8]) -> Result<Vec<Word>, LineError>
     ensures { GivesBy (λ words. words.items) result (values_of (slice_split (λ b. b == 32) line.now)) }
 {

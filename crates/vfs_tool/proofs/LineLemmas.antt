@@ -5,14 +5,13 @@ use Rattle.std.proofs.lemmas.List.Splits.{length-slice_split}
 use Rattle.std.proofs.lemmas.List.Sums.{count_by-le-length}
 use Rattle.world_model.specs.declared.settings.Settings.{Settings}
 use Rattle.world_model.specs.Defaults.{default_settings}
-use Rattle.script_reader.specs.declared.script.Opening.{Opening}
-use Rattle.script_reader.specs.declared.script.Opening.TheVariants as opening_line
-use Rattle.script_reader.specs.declared.script.Line.{Line}
-use Rattle.script_reader.specs.declared.script.Script.{Script}
-use Rattle.script_reader.specs.declared.script.TextKind.TheVariants.{Replay}
-use Rattle.script_reader.specs.Reading.{is_line_end}
-use Rattle.script_reader.specs.Set.{with_set, settings_after}
-use Rattle.script_reader.specs.Grammar.{IsOpening, IsOpeningLine, IsCommandLine, AreLines, none, note, line, IsTextOf}
+use Rattle.script_text.specs.declared.script.Opening.{Opening}
+use Rattle.script_text.specs.declared.script.Opening.TheVariants as opening_line
+use Rattle.script_text.specs.declared.script.Line.{Line}
+use Rattle.script_text.specs.declared.script.Script.{Script}
+use Rattle.script_text.specs.declared.script.TextKind.TheVariants.{Replay}
+use Rattle.script_text.specs.Grammar.{is_line_end, IsOpening, IsOpeningLine, IsCommandLine, AreLines, none, note, line, IsTextOf}
+use Rattle.script_text.specs.Set.{with_set, settings_after}
 use Rattle.vfs_tool.specs.Printing.{CanRun, IsQueue}
 
 lines-run : (texts : List (List ℕ)) (lines : List Line) → AreLines (IsCommandLine Replay) texts lines → Each CanRun lines

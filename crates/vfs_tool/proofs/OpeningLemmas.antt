@@ -9,7 +9,7 @@ use Rattle.vfs_laws.proofs.NameLemmas.{some-is}
 use Rattle.vfs_laws.proofs.SameLemmas.{same-refusal}
 use Rattle.world_model.specs.Told.{TreeTold, IsApplied}
 use Rattle.vfs_machine.proofs.EditLemmas.{applied-world}
-use Rattle.script_reader.specs.declared.script.Opening.{Opening}
+use Rattle.script_text.specs.declared.script.Opening.{Opening}
 use Rattle.vfs_tool.specs.Replies.{reply_text}
 use Rattle.vfs_tool.specs.Lines.{Printed}
 use Rattle.vfs_tool.specs.Report.{opening_edit, edited_unless, printed_edit, printed_opening}

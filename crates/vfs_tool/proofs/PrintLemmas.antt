@@ -6,7 +6,7 @@ use Rattle.std.specs.List.{concat}
 use Rattle.std.specs.Io.KnownBytes.{Appends}
 use Rattle.vfs_tool.specs.declared.output.Break.{Break}
 use Rattle.vfs_tool.specs.declared.output.Break.TheVariants.{Fault, NoMemory}
-use Rattle.script_reader.specs.Writing.{ended}
+use Rattle.script_text.specs.Writing.{ended}
 use Rattle.vfs_tool.specs.Lines.{Printed, output_lines, state_after}
 use Rattle.vfs_tool.specs.Printing.{IsPrinted, RunsAll}
 use Rattle.vfs_io.specs.Told.{SinkTold, Grows}

@@ -7,7 +7,7 @@ use Rattle.vfs_laws.proofs.NameLemmas.{some-is}
 use Rattle.world_model.specs.Told.{TreeTold}
 use Rattle.world_model.specs.Held.{Held}
 use Rattle.world_model.specs.declared.settings.Settings.{Settings}
-use Rattle.script_reader.specs.declared.script.Script.{Script}
+use Rattle.script_text.specs.declared.script.Script.{Script}
 use Rattle.vfs_tool.specs.declared.output.Break.{Break}
 use Rattle.vfs_tool.specs.Lines.{output_lines}
 use Rattle.vfs_tool.specs.Report.{printed, printed_opening, opening_world, opening_state, lines_of}

@@ -18,14 +18,14 @@ use Rattle.world_model.specs.Meaning.{edit_of}
 use Rattle.world_model.specs.declared.settings.Settings.{Settings}
 use Rattle.world_model.specs.declared.edit.Edit.{Edit as EditValue}
 use Rattle.world_model.specs.declared.edit.Edit.TheVariants as edit_value
-use Rattle.script_reader.specs.declared.script.Command.{Command}
-use Rattle.script_reader.specs.declared.script.Command.TheVariants.{Edit, Event, Lose, Deliver, Settle, Begin, Read, Publish, Abandon, Scan, Find, KindOf, VersionOf}
-use Rattle.script_reader.specs.declared.script.Opening.{Opening}
-use Rattle.script_reader.specs.declared.script.Opening.TheVariants as opening_line
-use Rattle.script_reader.specs.declared.script.Line.{Line}
-use Rattle.script_reader.specs.declared.script.Script.{Script}
-use Rattle.script_reader.specs.declared.script.TextKind.TheVariants.{Replay}
-use Rattle.script_reader.specs.Grammar.{IsOpening, IsEdit, IsCommand, IsOpeningLine, IsCommandLine, AreLines, none, note, line, IsTextOf}
+use Rattle.script_text.specs.declared.script.Command.{Command}
+use Rattle.script_text.specs.declared.script.Command.TheVariants.{Edit, Event, Lose, Deliver, Settle, Begin, Read, Publish, Abandon, Scan, Find, KindOf, VersionOf}
+use Rattle.script_text.specs.declared.script.Opening.{Opening}
+use Rattle.script_text.specs.declared.script.Opening.TheVariants as opening_line
+use Rattle.script_text.specs.declared.script.Line.{Line}
+use Rattle.script_text.specs.declared.script.Script.{Script}
+use Rattle.script_text.specs.declared.script.TextKind.TheVariants.{Replay}
+use Rattle.script_text.specs.Grammar.{IsOpening, IsEdit, IsCommand, IsOpeningLine, IsCommandLine, AreLines, none, note, line, IsTextOf}
 use Rattle.vfs_tool.specs.Lines.{state_after}
 use Rattle.vfs_tool.specs.Scanned.{reads_due, after_reads}
 use Rattle.vfs_tool.specs.Report.{edited_unless, printed_opening, after_deliveries, published_after, scanned_or, printed_for, printed, opening_world, opening_state}

@@ -10,9 +10,9 @@ use Rattle.vfs_model.specs.State.{State, CallBegin, told_step, edit_by, edit_ans
 use Rattle.vfs_model.specs.Paths.{place}
 use Rattle.vfs_model.specs.Stands.{Parts, Stands}
 use Rattle.world_model.specs.Meaning.{edit_of}
-use Rattle.script_reader.specs.declared.script.Command.{Command}
-use Rattle.script_reader.specs.declared.script.Command.TheVariants.{Edit, Event, Lose, Deliver, Settle, Begin, Read, Publish, Abandon, Scan as ScanLine, Find, KindOf, VersionOf}
-use Rattle.script_reader.specs.declared.script.Line.{Line}
+use Rattle.script_text.specs.declared.script.Command.{Command}
+use Rattle.script_text.specs.declared.script.Command.TheVariants.{Edit, Event, Lose, Deliver, Settle, Begin, Read, Publish, Abandon, Scan as ScanLine, Find, KindOf, VersionOf}
+use Rattle.script_text.specs.declared.script.Line.{Line}
 use Rattle.vfs_tool.specs.Report.{printed, printed_for, scanned_or}
 use Rattle.vfs_tool.specs.Scanned.{reads_due, after_reads}
 use Rattle.vfs_tool.specs.Printing.{IsReady}

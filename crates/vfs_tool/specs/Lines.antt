@@ -1,6 +1,6 @@
 -- Lines that are done one after the other, each of which prints a line.
 use Rattle.std.specs.Prelude.{ℕ, List, [], ◌∷◌}
-use Rattle.script_reader.specs.Writing.{ended}
+use Rattle.script_text.specs.Writing.{ended}
 
 -- what a line prints, without its line end, and the state after it
 pub record Printed (S : Type 0) : Type 0 where

@@ -12,7 +12,7 @@ use Rattle.world_model.specs.Told.{TreeTold}
 use Rattle.world_model.specs.Held.{Held}
 use Rattle.world_model.specs.declared.settings.Settings.{Settings}
 use Rattle.vfs_io.specs.Told.{SinkTold}
-use Rattle.script_reader.specs.declared.script.Line.{Line}
+use Rattle.script_text.specs.declared.script.Line.{Line}
 use Rattle.vfs_tool.specs.Lines.{Printed, output_lines, state_after}
 use Rattle.vfs_tool.specs.Output.{PutsEach}
 use Rattle.vfs_tool.specs.Report.{published_after}

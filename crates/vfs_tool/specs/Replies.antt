@@ -9,7 +9,7 @@ use Rattle.vfs_model.specs.declared.Kind.TheVariants.{Missing, File, Dir}
 use Rattle.vfs_model.specs.Edit.{Refusal, Root, NoParent, NotDir, Exists, Absent, IntoItself, TooDeep, Crowded, ReadOnly}
 use Rattle.vfs_model.specs.State.{Reply, Refused, Done, Overflow, Fits, Lost, Cleared, Delivered, NothingPending, AlreadyOpen, Version, NoScan, AllRead, Saw, Unfinished, Stale, Covered, Stored, Dropped, Found, KindIs, Fault, Glance}
 use Rattle.vfs_model.specs.History.{is_no_memory}
-use Rattle.script_reader.specs.Spelling.{spelled}
+use Rattle.script_text.specs.Spelling.{spelled}
 
 -- the number that is printed for a refusal
 abbrev pub number_of_refusal : Refusal → ℕ

@@ -11,12 +11,12 @@ use Rattle.vfs_model.specs.Scanning.{Scan as ScanInProgress}
 use Rattle.vfs_model.specs.State.{State, Call, CallEdit, CallEvent, CallLose, CallDeliver, CallBegin, CallRead, CallPublish, CallDrop, CallFind, CallKind, CallVersion, Refused, Done, scan_of, told_step}
 use Rattle.vfs_model.specs.History.{opening, empty_world}
 use Rattle.world_model.specs.Meaning.{edit_of}
-use Rattle.script_reader.specs.declared.script.Command.{Command}
-use Rattle.script_reader.specs.declared.script.Command.TheVariants.{Edit, Event, Lose, Deliver, Settle, Begin, Read, Publish, Abandon, Scan, Find, KindOf, VersionOf}
-use Rattle.script_reader.specs.declared.script.Opening.{Opening}
-use Rattle.script_reader.specs.declared.script.Opening.TheVariants as opening_line
-use Rattle.script_reader.specs.declared.script.Line.{Line}
-use Rattle.script_reader.specs.declared.script.Script.{Script}
+use Rattle.script_text.specs.declared.script.Command.{Command}
+use Rattle.script_text.specs.declared.script.Command.TheVariants.{Edit, Event, Lose, Deliver, Settle, Begin, Read, Publish, Abandon, Scan, Find, KindOf, VersionOf}
+use Rattle.script_text.specs.declared.script.Opening.{Opening}
+use Rattle.script_text.specs.declared.script.Opening.TheVariants as opening_line
+use Rattle.script_text.specs.declared.script.Line.{Line}
+use Rattle.script_text.specs.declared.script.Script.{Script}
 use Rattle.vfs_tool.specs.Replies.{reply_text}
 use Rattle.vfs_tool.specs.Lines.{Printed, output_lines, state_after}
 use Rattle.vfs_tool.specs.Scanned.{reads_due, after_reads}

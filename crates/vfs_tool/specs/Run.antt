@@ -5,9 +5,10 @@ use Rattle.std.specs.Global.{Global}
 use Rattle.std.specs.Io.KnownBytes.{Appends}
 use Rattle.vfs_model.specs.Sound.{IsSound}
 use Rattle.vfs_io.specs.Told.{SourceTold, SinkTold, Grows}
-use Rattle.script_reader.specs.declared.script.Script.{Script}
-use Rattle.script_reader.specs.declared.script.TextKind.TheVariants.{Replay}
-use Rattle.script_reader.specs.Grammar.{IsTextOf, FirstBad}
+use Rattle.script_text.specs.declared.script.Script.{Script}
+use Rattle.script_text.specs.declared.script.TextKind.TheVariants.{Replay}
+use Rattle.script_text.specs.Grammar.{IsTextOf}
+use Rattle.script_reader.specs.Faults.{FirstBad}
 use Rattle.vfs_tool.specs.Input.{TakesAll}
 use Rattle.vfs_tool.specs.Output.{PutsEach, PutsPart}
 use Rattle.vfs_tool.specs.Report.{lines_of, report_of}

@@ -7,11 +7,11 @@ use Rattle.vfs_model.specs.World.{World}
 use Rattle.vfs_model.specs.Scanning.{Scan as ScanInProgress}
 use Rattle.vfs_model.specs.State.{State, CallBegin, scan_of, told_step}
 use Rattle.vfs_model.specs.History.{opening, empty_world}
-use Rattle.script_reader.specs.declared.script.Command.{Command}
-use Rattle.script_reader.specs.declared.script.Command.TheVariants.{Settle, Scan}
-use Rattle.script_reader.specs.declared.script.Opening.{Opening}
-use Rattle.script_reader.specs.declared.script.Line.{Line}
-use Rattle.script_reader.specs.declared.script.Script.{Script}
+use Rattle.script_text.specs.declared.script.Command.{Command}
+use Rattle.script_text.specs.declared.script.Command.TheVariants.{Settle, Scan}
+use Rattle.script_text.specs.declared.script.Opening.{Opening}
+use Rattle.script_text.specs.declared.script.Line.{Line}
+use Rattle.script_text.specs.declared.script.Script.{Script}
 use Rattle.vfs_tool.specs.Scanned.{reads_due, after_reads}
 use Rattle.vfs_tool.specs.Report.{after_deliveries, published_after, printed_for, printed, printed_opening, opening_state}
 

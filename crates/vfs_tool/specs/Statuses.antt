@@ -2,9 +2,9 @@
 use Rattle.std.specs.Prelude.{ℕ, List, [], ◌++◌, codes}
 use Rattle.std.specs.Fmt.{decimal}
 use Rattle.vfs_path.specs.Errors.{number_of}
-use Rattle.script_reader.specs.declared.cause.Cause.{Cause}
-use Rattle.script_reader.specs.declared.cause.Cause.TheVariants.{BadPath}
-use Rattle.script_reader.specs.Causes.{number_of_cause}
+use Rattle.script_text.specs.declared.cause.Cause.{Cause}
+use Rattle.script_text.specs.declared.cause.Cause.TheVariants.{BadPath}
+use Rattle.script_text.specs.Causes.{number_of_cause}
 use Rattle.vfs_tool.specs.declared.status.Status.{Status}
 use Rattle.vfs_tool.specs.declared.status.Status.TheVariants.{Done, BadScript, Usage, ReadFault, WriteFault, NoMemory, TooLong}
 

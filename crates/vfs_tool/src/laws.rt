@@ -3,10 +3,10 @@
 
 ghost use Rattle.std.specs.Prelude.{◌≡◌, ◌<◌, ◌++◌, ◌∷◌, [], ℕ, List, None, length};
 ghost use Rattle.std.specs.List.{AllByRecursion as Each};
-ghost use Rattle.script_reader.specs.declared.script.Command.{Command};
-ghost use Rattle.script_reader.specs.declared.script.Script.{Script};
-ghost use Rattle.script_reader.specs.declared.script.TextKind.TheVariants.{Replay};
-ghost use Rattle.script_reader.specs.Grammar.{IsTextOf};
+ghost use Rattle.script_text.specs.declared.script.Command.{Command};
+ghost use Rattle.script_text.specs.declared.script.Script.{Script};
+ghost use Rattle.script_text.specs.declared.script.TextKind.TheVariants.{Replay};
+ghost use Rattle.script_text.specs.Grammar.{IsTextOf};
 ghost use Rattle.vfs_model.specs.Paths.{Path};
 ghost use Rattle.vfs_model.specs.World.{AreShort};
 ghost use Rattle.vfs_model.specs.Sound.{IsSound};

@@ -4,7 +4,7 @@ ghost use Rattle.std.specs.Prelude.{◌≡◌, ◌≤◌, [], ◌∷◌, length,
 ghost use Rattle.std.specs.List.{AllByRecursion as Each};
 ghost use Rattle.vfs_model.specs.declared.Case.{Case};
 ghost use Rattle.vfs_model.specs.Stands.{Stands};
-ghost use Rattle.script_reader.specs.Writing.{ended};
+ghost use Rattle.script_text.specs.Writing.{ended};
 ghost use Rattle.vfs_tool.specs.Report.{printed, printed_opening};
 ghost use Rattle.vfs_tool.specs.Printing.{CanRun, IsReady, RunsAll, HoldsWorld};
 ghost use Rattle.vfs_tool.specs.Output.{PutsEach, Breaks, BreaksOff};

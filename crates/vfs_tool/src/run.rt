@@ -2,9 +2,9 @@
 
 ghost use Rattle.std.specs.Prelude.{◌≡◌, ◌↔◌, ◌⊎◌, ◌+◌, ◌-◌, ◌^◌, ◌<◌, ◌≤◌, ℕ, List, Some, length, IsTrue, IfErr, OnOk};
 ghost use Rattle.std.specs.List.{AllByRecursion as Each};
-ghost use Rattle.script_reader.specs.declared.cause.BadLine.{BadLine};
-ghost use Rattle.script_reader.specs.declared.script.TextKind.TheVariants.{Replay};
-ghost use Rattle.script_reader.specs.Grammar.{FirstBad};
+ghost use Rattle.script_text.specs.declared.cause.BadLine.{BadLine};
+ghost use Rattle.script_text.specs.declared.script.TextKind.TheVariants.{Replay};
+ghost use Rattle.script_reader.specs.Faults.{FirstBad};
 ghost use Rattle.vfs_model.specs.Faults.{Rose};
 ghost use Rattle.vfs_tool.specs.Input.{TakesNothing, TakesAll, TakesSome, AsksAtMost, limit};
 ghost use Rattle.vfs_tool.specs.Output.{PutsEach, PutsNothing, Breaks, BreaksOff};

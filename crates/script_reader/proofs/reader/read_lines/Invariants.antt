@@ -1,6 +1,7 @@
 use Rattle.std.proofs.Common.{◌≡◌, ◌+◌, ◌≤◌, length}
 use Rattle.std.specs.List.{slice_split}
-use Rattle.script_reader.specs.Reading.{after_parts, script_of, is_line_end}
+use Rattle.script_reader.specs.Reading.{after_parts, script_of}
+use Rattle.script_text.specs.Grammar.{is_line_end}
 use Rattle.script_reader.proofs.reader.read_lines.Given as goal
 
 abbrev pub invariant-loop-after : goal.invariant-loop-after

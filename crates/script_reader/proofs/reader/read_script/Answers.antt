@@ -1,6 +1,5 @@
-use Rattle.script_reader.specs.declared.script.TextKind.TheVariants.{Replay}
-use Rattle.script_reader.proofs.TextLaws.{result_found, result_bad, result_read, result_named}
-use Rattle.script_reader.proofs.WrittenLines.{HasText-found}
+use Rattle.script_text.specs.declared.script.TextKind.TheVariants.{Replay}
+use Rattle.script_reader.proofs.TextLaws.{result_found, result_bad, result_read, result_named, HasText-found}
 use Rattle.script_reader.proofs.reader.read_script.Goals as goal
 
 pub returns : goal.returns

@@ -2,7 +2,7 @@ use Rattle.std.proofs.Common.{◌≡◌, eqb}
 use Rattle.std.specs.List.{list_any, slice_split}
 use Rattle.std.specs.Option.{option_copied}
 use Rattle.vfs_path.specs.Texts.{is_empty}
-use Rattle.script_reader.specs.Words.{parts_after}
+use Rattle.script_reader.specs.Pieces.{parts_after}
 use Rattle.script_reader.proofs.Loops.{left_len}
 use Rattle.script_reader.proofs.words.has_empty_word.Given as goal
 

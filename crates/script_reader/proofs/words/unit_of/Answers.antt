@@ -1,7 +1,8 @@
 use Rattle.std.proofs.Common.{◌≡◌, [], refl}
 use Rattle.std.proofs.lemmas.List.{nil_from_length}
-use Rattle.script_reader.specs.Words.{value_of}
-use Rattle.script_reader.proofs.Units.{plain_unit, short_escape, no_escape, good_escape}
+use Rattle.script_text.specs.Words.{value_of}
+use Rattle.script_text.proofs.PlainUnits.{plain_unit}
+use Rattle.script_reader.proofs.Units.{short_escape, no_escape, good_escape}
 use Rattle.script_reader.proofs.words.unit_of.Goals as goal
 
 pub returns-in_default-clause-value : goal.returns-in_default-clause-value

@@ -1,5 +1,5 @@
 use Rattle.std.proofs.Common.{◌≡◌, length}
-use Rattle.script_reader.specs.Words.{value_of}
+use Rattle.script_text.specs.Words.{value_of}
 use Rattle.script_reader.proofs.Loops.{with_front}
 use Rattle.script_reader.proofs.words.value_of.Given as goal
 

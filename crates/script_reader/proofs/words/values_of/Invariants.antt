@@ -1,7 +1,8 @@
 use Rattle.std.proofs.Common.{◌≡◌, eqb}
 use Rattle.std.specs.List.{slice_split}
 use Rattle.std.specs.Option.{option_copied}
-use Rattle.script_reader.specs.Words.{values_of, parts_after}
+use Rattle.script_text.specs.Words.{values_of}
+use Rattle.script_reader.specs.Pieces.{parts_after}
 use Rattle.script_reader.proofs.Loops.{left_len, with_front}
 use Rattle.script_reader.proofs.words.values_of.Given as goal
 

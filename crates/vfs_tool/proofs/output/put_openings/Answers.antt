@@ -2,7 +2,7 @@ use Rattle.std.proofs.Common.{suc, ◌<◌, List, ◌∷◌, [], length, take, d
 use Rattle.std.proofs.lemmas.Result.{err_from_is_err_and}
 use Rattle.vfs_model.specs.declared.Case.{Case}
 use Rattle.vfs_model.specs.World.{World}
-use Rattle.script_reader.specs.declared.script.Opening.{Opening}
+use Rattle.script_text.specs.declared.script.Opening.{Opening}
 use Rattle.vfs_tool.specs.Report.{printed_opening}
 use Rattle.vfs_tool.specs.Printing.{HoldsWorld, RunsAll}
 use Rattle.vfs_tool.specs.Output.{BreaksOff}

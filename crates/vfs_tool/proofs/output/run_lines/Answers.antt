@@ -1,6 +1,6 @@
 use Rattle.std.proofs.Common.{suc, ◌+◌, ◌-◌, ◌<◌, List, ◌∷◌, [], length, take, drop, sym, subst, arith}
 use Rattle.std.proofs.lemmas.Result.{err_from_is_err_and}
-use Rattle.script_reader.specs.declared.script.Line.{Line}
+use Rattle.script_text.specs.declared.script.Line.{Line}
 use Rattle.vfs_model.specs.Stands.{Stands}
 use Rattle.vfs_tool.specs.Report.{printed}
 use Rattle.vfs_tool.specs.Printing.{CanRun, RunsAll}

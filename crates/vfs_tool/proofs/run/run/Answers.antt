@@ -1,6 +1,6 @@
 use Rattle.std.proofs.Common.{List, ℕ, subst}
-use Rattle.script_reader.specs.declared.script.TextKind.TheVariants.{Replay}
-use Rattle.script_reader.specs.Grammar.{FirstBad}
+use Rattle.script_text.specs.declared.script.TextKind.TheVariants.{Replay}
+use Rattle.script_reader.specs.Faults.{FirstBad}
 use Rattle.vfs_tool.proofs.run.run.Goals as goal
 
 pub returns-in-Ok-clause-bad : goal.returns-in-Ok-clause-bad

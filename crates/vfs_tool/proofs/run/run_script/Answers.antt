@@ -1,7 +1,7 @@
 use Rattle.std.proofs.Common.{List, subst}
 use Rattle.std.proofs.lemmas.Result.{on_ok_weaker, IfErr-weaker, err_from_is_err_and}
-use Rattle.script_reader.specs.declared.script.Line.{Line}
-use Rattle.script_reader.specs.declared.script.Opening.{Opening}
+use Rattle.script_text.specs.declared.script.Line.{Line}
+use Rattle.script_text.specs.declared.script.Opening.{Opening}
 use Rattle.vfs_model.specs.History.{empty_world}
 use Rattle.vfs_tool.specs.Report.{printed, printed_opening}
 use Rattle.vfs_tool.specs.Printing.{RunsAll, HoldsWorld, IsOpeningOver}

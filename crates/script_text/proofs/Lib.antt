@@ -1,0 +1,4 @@
+pub mod PlainUnits
+pub mod Digits
+pub mod Written
+pub mod WrittenLines
