@@ -8,7 +8,7 @@ use Rattle.vfs_model.specs.Pending.{Pending, is_hit}
 use Rattle.vfs_model.specs.Retained.{Retained}
 use Rattle.vfs_model.specs.Scanning.{Scan}
 use Rattle.vfs_model.specs.State.{State, KeptPrint}
-use Rattle.vfs_model.specs.Sound.{IsInputCount, IsInLimits, IsSound, AreScanned}
+use Rattle.vfs_model.specs.Sound.{IsInputCount, IsInLimits, IsSound, AreScanned, IsSettled}
 use Rattle.vfs_model.specs.Stands.{RunningScan, Parts, AreSlotsOf, Stands, HasSound, has_grown, IsTrueRunning, KnowsTruth}
 use Rattle.vfs_laws.proofs.NameLemmas.{each-weaker, some-is}
 use Rattle.vfs_laws.proofs.SameLemmas.{alike-at, same-refl, same-sym, same-trans}
@@ -86,22 +86,30 @@ states-sound at count m w s told stands whole h = record {
 
 -- ---- where nothing waits
 
+-- a machine that stands for a state also does for the state over the very world that its tree tells
+pub stands-told : {V : Type 0} (at : V → Path → ℕ) (count : V → ℕ) (m : Parts V) (w : World) (s : State) → m.content ≡ Some w → Stands at count m s → Stands at count m (record s { world = w })
+stands-told at count m w s told h = record {
+  case = h.case;
+  world = λ v e. subst (λ u. IsSameBelow m.case w [] u []) (some-is w v (sym told ∙ e)) (same-refl m.case w);
+  pending = h.pending;
+  retained = h.retained;
+  past = h.past;
+  scans = h.scans;
+  kept = h.kept;
+}
+
+-- where nothing waits in a machine, nothing waits in a state that it stands for
+pub stands-settled : {V : Type 0} (at : V → Path → ℕ) (count : V → ℕ) (m : Parts V) (s : State) → m.pending.events ≡ [] → m.pending.mark ≡ false → Stands at count m s → IsSettled s
+stands-settled at count m s events mark h = record { events = ap (λ (p : Pending). p.events) h.pending ∙ events; mark = ap (λ (p : Pending). p.mark) h.pending ∙ mark }
+
 -- all that a sound machine knows is what a scan of the told content gives, where nothing waits
 pub machine-scanned : {V : Type 0} (at : V → Path → ℕ) (count : V → ℕ) (m : Parts V) (w : World) → m.content ≡ Some w → IsWorld m.case w → m.pending.events ≡ [] → m.pending.mark ≡ false → HasSound at count m → AreScanned m.case w m.retained m.kept
 machine-scanned at count m w told whole events mark h =
     subst (λ (c : Case × Retained × List KeptPrint). AreScanned c.0 w c.1 c.2) (λ i. (h.stands.case i, h.stands.retained i, h.stands.kept i))
-    (settled-scanned s (record { events = ap (λ (p : Pending). p.events) h.stands.pending ∙ events; mark = ap (λ (p : Pending). p.mark) h.stands.pending ∙ mark }) (truth-from at count m s stands (truth-told at count m w told whole h)))
+    (settled-scanned s (stands-settled at count m s events mark stands) (truth-from at count m s stands (truth-told at count m w told whole h)))
   where
     s : State
     s = record h.state { world = w }
 
     stands : Stands at count m s
-    stands = record {
-      case = h.stands.case;
-      world = λ v e. subst (λ u. IsSameBelow m.case w [] u []) (some-is w v (sym told ∙ e)) (same-refl m.case w);
-      pending = h.stands.pending;
-      retained = h.stands.retained;
-      past = h.stands.past;
-      scans = h.stands.scans;
-      kept = h.stands.kept;
-    }
+    stands = stands-told at count m w h.state told h.stands

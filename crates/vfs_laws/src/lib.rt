@@ -16,7 +16,7 @@ ghost use Rattle.vfs_model.specs.Pending.{version};
 ghost use Rattle.vfs_model.specs.Retained.{Pair, Retained, kind_of, part_of, all_pairs_left, after_store, is_covered, AreInLine, IsInShape, after_invalidation};
 ghost use Rattle.vfs_model.specs.Scanning.{Scan, is_overtaken, Unread, Look, PartialSnapshot, IsFront, look, count_left, next_left, after_look, partial_of_look, contents, walk_of, after_looks, walk_after, first_walk, looks_of, first_of, locations_left, decided_status, partial_at, decided_status_by, IsPartialTree, Reading, readings, path_order};
 ghost use Rattle.vfs_model.specs.Fingerprint.{AreDigests, digest_bytes, lines, Input, Seen, Relative, fingerprint};
-ghost use Rattle.vfs_model.specs.State.{State, Call, CallBegin, CallPublish, Answers, Reply, Version, Stale, AreDue, answers, step, after_begin, scan_of};
+ghost use Rattle.vfs_model.specs.State.{State, Call, CallBegin, CallPublish, CallFingerprint, Answers, Reply, Version, Stale, Is, AreDue, answers, step, after_begin, scan_of};
 ghost use Rattle.vfs_model.specs.History.{own_partial, after_operation, IsLegalOperation, opening, empty_world, IsOpening, changes, after_changes, Operation, after, IsCall, IsLegal, KeepsOpen, is_stale, is_invalidated_in, is_scan_overtaken};
 ghost use Rattle.vfs_model.specs.Sound.{AreLooks, IsShaped, IsInLimits, IsTrue, IsSound, IsSettled, IsScanned, AreScanned, fingerprint_of};
 ghost use Rattle.vfs_model.specs.Stands.{StandsFor, RunningScan, Parts, IsScanOf, Stands, HasSound, has_grown, KnowsTruth};
@@ -67,6 +67,12 @@ pub fn invalidation_keeps_the_rest()
 pub fn store_is_found()
     ensures below { (case : Case) (p : Path) (s : Snapshot) (retained : Retained) (x : Path) → is_covered retained.pairs p ≡ false → is_at_or_above p x ≡ true → part_of case (after_store p s retained).pairs x ≡ Some (sub case s (drop (length p) x)) }
     ensures elsewhere { (case : Case) (p : Path) (s : Snapshot) (retained : Retained) (x : Path) → is_at_or_above p x ≡ false → part_of case (after_store p s retained).pairs x ≡ part_of case retained.pairs x }
+{}
+
+/// What is retained stays retained through a store, and after a store its own place is retained, whether or not a pair stands above.
+pub fn stores_keep_what_is_retained()
+    ensures keeps { (case : Case) (p : Path) (s : Snapshot) (retained : Retained) (x : Path) → is_some (part_of case retained.pairs x) ≡ true → is_some (part_of case (after_store p s retained).pairs x) ≡ true }
+    ensures stores { (case : Case) (p : Path) (s : Snapshot) (retained : Retained) → is_some (part_of case (after_store p s retained).pairs p) ≡ true }
 {}
 
 /// Where no pair stands strictly above a snapshot that is not missing, each place strictly above it is known to be a directory after its store; and what is known to be one strictly above a path is known to be one after the invalidation of the path, where the snapshots are trees.
@@ -147,6 +153,12 @@ pub fn relative_prints_outlive_a_move()
 /// An input whose root lies at or below the root of the input before it adds nothing to the fingerprint.
 pub fn covered_roots_add_nothing()
     ensures { (case : Case) (a b : Seen) → is_at_or_above (place case a.input.root) (place case b.input.root) ≡ true → fingerprint case (a ∷ b ∷ []) ≡ fingerprint case (a ∷ []) }
+{}
+
+/// Where the root of each input is retained, a call for their fingerprint is answered with a digest. And where nothing waits and all that is known is true, a digest that is answered is the fingerprint of the inputs in the world, whether it was kept or is new.
+pub fn settled_fingerprints_are_of_the_world()
+    ensures known { (a : Answers) (s : State) (inputs : List Input) → Each (λ (i : Input). is_some (part_of s.case s.retained.pairs (place s.case i.root)) ≡ true) inputs → (d : List ℕ) × ((step a s (CallFingerprint inputs)).reply ≡ Is d) }
+    ensures world { (a : Answers) (s : State) (inputs : List Input) (d : List ℕ) → IsSettled s → IsTrue s → (step a s (CallFingerprint inputs)).reply ≡ Is d → d ≡ fingerprint_of s.case s.world inputs }
 {}
 
 // ---- steps and histories
