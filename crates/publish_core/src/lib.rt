@@ -6,5 +6,6 @@ mod published;
 mod tests;
 mod vfs;
 
-pub use published::{Published, Refusal, Ticket};
+pub use published::{Published, Refusal};
+pub use version_hierarchy::Ticket;
 pub use vfs::Vfs;

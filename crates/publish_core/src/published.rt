@@ -1,23 +1,4 @@
-//! Tickets, and what comes of a publication.
-
-use case_order::{NoMemory, Share};
-use vfs_path::Path;
-
-/// A path, and its version when it was asked for.
-#[derive(Debug, Drop)]
-pub struct Ticket {
-    pub path: Path,
-    pub seen: u64,
-}
-
-impl Share for Ticket {
-    fn share(&self) -> Result<Ticket, NoMemory> {
-        Ok(Ticket {
-            path: self.path.share()?,
-            seen: self.seen,
-        })
-    }
-}
+//! What comes of a publication.
 
 /// What came of a publication.
 #[derive(Clone, Copy, Debug, PartialEq, Eq)]

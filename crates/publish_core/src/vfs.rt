@@ -13,14 +13,14 @@ ghost use Rattle.snapshot_tree.specs.Meaning.{meaning_of, glance_of};
 ghost use Rattle.snapshot_hierarchy.specs.Held.{nothing};
 ghost use Rattle.publish_core.specs.Publication.{IsRefusal, IsAnswer, retained_after, changes_published, is_stale};
 
-use crate::published::{Published, Refusal, Ticket};
+use crate::published::{Published, Refusal};
 use case_order::{Case, NoMemory};
 use snapshot_hierarchy::{Retain, Shown, Stored};
 use snapshot_tree::{Glance, Kind, Snapshot};
 use std::marker::Model;
 use std::sync::Wait;
 use std::thread::Threads;
-use version_hierarchy::Versions;
+use version_hierarchy::{Ticket, Versions};
 use vfs_path::Path;
 
 /// What is retained, and the versions of paths, under one case.

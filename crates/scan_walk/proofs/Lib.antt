@@ -1,3 +1,5 @@
+pub mod CasedLemmas
+pub mod LocationLemmas
 pub mod StepLemmas
 pub mod MakingLemmas
 pub mod ChildrenLemmas

@@ -1,3 +1,5 @@
 pub mod Progress
 pub mod Walking
 pub mod Making
+pub mod Cased
+pub mod Scans

@@ -1,4 +1,4 @@
-//! A walk over a small tree, from look to look, and the snapshot of what it read.
+//! Walks and scans over a small tree, from look to look, and the snapshot of what was read.
 
 ghost use Rattle.std.specs.Prelude.{◌≡◌, ◌+◌, ◌<◌, None, IfOk, IsSome, IsTrue, length, map};
 ghost use Rattle.std.specs.Option.{ForSome};
@@ -7,13 +7,14 @@ ghost use Rattle.vfs_model.specs.Scanning as scanning;
 ghost use Rattle.vfs_model.specs.World.{digest_of_bytes};
 ghost use Rattle.world_model.specs.Meaning.{look_seen};
 
-use crate::ScanWalk;
+use crate::{Next, Scan, ScanWalk, contents_of, is_open, left_of, next_of, see_in, set_scan};
 use case_order::{Case, NoMemory, order};
 use merkle_hash::{Bytes, Digest, file_digest};
 use snapshot_tree::{Kind, Snapshot};
 use std::alloc::Global;
 use std::process::Abort;
 use std::test::Fail;
+use version_hierarchy::Ticket;
 use vfs_path::{Name, Names, Path};
 use world_model::Entry;
 
@@ -112,6 +113,49 @@ fn snapshot(rt: &impl Abort, alloc: Global, walk: &ScanWalk) -> Result<Snapshot,
     Ok(walk.snapshot(digests.as_slice())?)
 }
 
+/// A scan of the path, whose version at the begin is 3.
+fn scan(alloc: Global, at: &str) -> Result<Scan, Fail> {
+    let ticket = Ticket {
+        path: path(alloc, at)?,
+        seen: 3,
+    };
+    Ok(Scan::begin(alloc, Case::Insensitive, ticket)?)
+}
+
+/// Asserts that the path is next of the scan 1, and looks there; gives how many locations are left
+/// then.
+fn look_in(
+    rt: &impl Abort,
+    alloc: Global,
+    scans: &mut Vec<Option<Scan>>,
+    at: &str,
+    sees: Sees,
+) -> Result<u64, Fail>
+    requires { length scans.old.items ≡ 2 }
+    ensures { length scans.new.items ≡ 2 }
+{
+    let entry = entry(rt, alloc, sees)?;
+    match next_of(scans, 1)? {
+        Next::Location(location) => {
+            assert_eq!(rt; location, path(alloc, at)?);
+            assert!(rt; location.len() < 64);
+            Ok(see_in(scans, 1, entry)?)
+        }
+        Next::Closed | Next::Done => {
+            assert!(rt; false, "at {at}");
+            Ok(0)
+        }
+    }
+}
+
+/// The snapshot of what the scan read, where nothing is left.
+fn scanned(rt: &impl Abort, alloc: Global, scan: &Scan) -> Result<Snapshot, Fail> {
+    assert!(rt; scan.next().is_none());
+    assert_eq!(rt; scan.left(), 0);
+    let digests = digests_of(alloc, scan.contents())?;
+    Ok(scan.snapshot(digests.as_slice())?)
+}
+
 /// What the snapshot of the first name of the path tells of the path.
 fn assert_told(
     rt: &impl Abort,
@@ -177,5 +221,44 @@ fn location_seen_missing_is_left_out(rt: HostRuntime) -> Result<(), Fail> {
     ] {
         assert_told(&rt, alloc, &made, text, kind)?;
     }
+    Ok(())
+}
+
+#[test]
+fn scans_are_read_by_their_numbers(rt: HostRuntime) -> Result<(), Fail> {
+    let alloc = rt.alloc();
+    let begun = scan(alloc, "/d")?;
+    assert_eq!(rt; begun.ticket().path, path(alloc, "/d")?);
+    assert_eq!(rt; begun.ticket().seen, 3);
+    let mut scans = Vec::new(alloc);
+    scans.push(None)?;
+    scans.push(None)?;
+    set_scan(&mut scans, 1, Some(begun));
+    assert_eq!(rt; (is_open(&scans, 0), is_open(&scans, 1)), (false, true));
+    assert_eq!(rt; (left_of(&scans, 0), left_of(&scans, 1)), (None, Some(1)));
+    for (at, sees, left) in [
+        ("/d", Sees::Dir("a", "b"), 2),
+        ("/d/a", Sees::Nothing, 1),
+        ("/d/b", Sees::File("two"), 0),
+    ] {
+        assert_eq!(rt; look_in(&rt, alloc, &mut scans, at, sees)?, left, "at {at}");
+    }
+    assert!(rt; matches!(next_of(&scans, 0)?, Next::Closed));
+    assert!(rt; matches!(next_of(&scans, 1)?, Next::Done));
+    assert!(rt; contents_of(&scans, 0).is_none());
+    assert_eq!(rt;
+        contents_of(&scans, 1).map(|contents| contents.len()),
+        Some(1)
+    );
+    match &scans[1] {
+        None => assert!(rt; false),
+        Some(scan) => {
+            let made = scanned(&rt, alloc, scan)?;
+            assert_told(&rt, alloc, &made, "/d/a", Kind::Missing)?;
+            assert_told(&rt, alloc, &made, "/d/b", Kind::File)?;
+        }
+    }
+    set_scan(&mut scans, 1, None);
+    assert!(rt; !is_open(&scans, 1));
     Ok(())
 }

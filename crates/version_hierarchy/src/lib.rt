@@ -4,7 +4,9 @@
 mod flat;
 #[cfg(test)]
 mod tests;
+mod ticket;
 mod versions;
 
 pub use flat::FlatVersions;
+pub use ticket::Ticket;
 pub use versions::Versions;

@@ -1,9 +1,9 @@
-//! Versions after invalidations.
+//! Versions after invalidations, and a ticket that is shared.
 
 ghost use Rattle.std.specs.Prelude.{◌≡◌};
 
-use crate::{FlatVersions, Versions};
-use case_order::Case;
+use crate::{FlatVersions, Ticket, Versions};
+use case_order::{Case, Share};
 use std::alloc::Global;
 use std::process::Abort;
 use std::test::Fail;
@@ -43,4 +43,17 @@ fn versions_are_of_what_is_related(rt: HostRuntime) -> Result<(), Fail> {
     let alloc = rt.alloc();
     let none = FlatVersions::new(alloc, Case::Insensitive);
     assert_raised(&rt, alloc, &none)
+}
+
+#[test]
+fn shared_ticket_has_path_and_version(rt: HostRuntime) -> Result<(), Fail> {
+    let alloc = rt.alloc();
+    let ticket = Ticket {
+        path: Path::parse(alloc, b"/a/B")?,
+        seen: 7,
+    };
+    let shared = ticket.share()?;
+    assert_eq!(rt; shared.path, Path::parse(alloc, b"/a/B")?);
+    assert_eq!(rt; shared.seen, 7);
+    Ok(())
 }

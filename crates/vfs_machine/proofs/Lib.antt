@@ -1,4 +1,3 @@
-pub mod CasedLemmas
 pub mod OpenLemmas
 pub mod StandsLemmas
 pub mod SlotLemmas
@@ -8,3 +7,5 @@ pub mod PutLemmas
 pub mod PublishLemmas
 pub mod ToldLemmas
 pub mod StaleLemmas
+pub mod RootLemmas
+pub mod KeptLemmas

@@ -16,11 +16,15 @@ use Rattle.publish_core.specs.Publication.{IsAnswer, retained_after}
 use Rattle.snapshot_hierarchy.specs.Held.{Held}
 use Rattle.vfs_laws.proofs.Splits.{split}
 use Rattle.vfs_laws.proofs.StandsLemmas.{overtaken-grown}
-use Rattle.vfs_machine.specs.Scans.{running_at, AreDigests, AreContentsOf, IsDone}
+use Rattle.scan_walk.specs.Scans.{running_at, AreDigests, AreContentsOf, IsDone}
 use Rattle.vfs_machine.specs.Publish.{IsPublished, published_reply, scans_after}
 use Rattle.vfs_machine.specs.Whole.{held_of}
 use Rattle.vfs_model.specs.Steps.{IsOutcome, is_before_memory}
 use Rattle.vfs_machine.proofs.SlotLemmas.{slot-of, slots-set}
+use Rattle.vfs_laws.proofs.SoundLemmas.{each-set}
+use Rattle.scan_walk.specs.Cased.{CasedScan, scans_in, IsUnder}
+use Rattle.scan_walk.proofs.CasedLemmas.{set-in}
+use Rattle.std.specs.List.{AllByRecursion as Each}
 
 -- ---- what is left
 
@@ -221,3 +225,19 @@ digests-of_contents (Some r) digests done h = let zero_left : count_left r.parti
 pub done-of_count : (r : Option RunningScan) → option_map (λ (q : RunningScan). count_left q.partial) r ≡ Some 0 → IsDone r
 done-of_count None done = tt
 done-of_count (Some r) done = let zero_left : count_left r.partial ≡ 0 = cc in none-left r.partial zero_left
+
+-- ---- the scans
+
+-- the scans are closed after a publication as they are alone
+pub after-in : (xs : List (Option CasedScan)) (c : ℕ) (result : Published) → scans_in (scans_after xs c result) ≡ scans_after (scans_in xs) c result
+after-in xs c (answer.Stale n) = set-in xs c None
+after-in xs c answer.Covered = set-in xs c None
+after-in xs c answer.Stored = set-in xs c None
+after-in xs c answer.NoMemory = refl
+
+-- and all have one case then
+pub under-after : (case : Case) (xs : List (Option CasedScan)) (c : ℕ) (result : Published) → Each (IsUnder case) xs → Each (IsUnder case) (scans_after xs c result)
+under-after case xs c (answer.Stale n) h = each-set (IsUnder case) xs c None tt h
+under-after case xs c answer.Covered h = each-set (IsUnder case) xs c None tt h
+under-after case xs c answer.Stored h = each-set (IsUnder case) xs c None tt h
+under-after case xs c answer.NoMemory h = h

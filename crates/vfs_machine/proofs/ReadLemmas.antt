@@ -1,5 +1,5 @@
 -- A machine that stands for a state still does after a read of a scan.
-use Rattle.std.proofs.Common.{◌≡◌, ℕ, ◌+◌, List, ◌++◌, length, length-append, true, false, is_some, Option, Some, None, IfSome, option_map, slice_set, refl, sym, ap, ◌∙◌, subst}
+use Rattle.std.proofs.Common.{◌≡◌, ℕ, ◌+◌, List, ◌++◌, length, length-append, false, Option, Some, None, IfSome, slice_set, refl, sym, ap, ◌∙◌, subst}
 use Rattle.vfs_model.specs.declared.Case.{Case}
 use Rattle.vfs_model.specs.declared.Kind.{Kind}
 use Rattle.vfs_model.specs.Paths.{Path, place}
@@ -7,60 +7,14 @@ use Rattle.vfs_model.specs.World.{World}
 use Rattle.vfs_model.specs.Scanning.{Scan, Look, look, next_left, count_left, after_look}
 use Rattle.vfs_model.specs.State.{State, TreeAnswer, NoScan, AllRead, Saw, Fault, scan_of, kind_of_look, read_or, read_next, look_below, look_due, look_due_at, IsLookAt, IsLookFor}
 use Rattle.vfs_model.specs.Stands.{RunningScan, Parts, Stands, IsScanOf, IsSlotOf}
-use Rattle.vfs_machine.specs.declared.slots.Next.{Next}
-use Rattle.vfs_machine.specs.declared.slots.Next.TheVariants as to
-use Rattle.vfs_machine.specs.Cased.{CasedScan, running_of, scans_in, cased_at, IsUnder}
-use Rattle.vfs_machine.proofs.CasedLemmas.{running-is}
+use Rattle.scan_walk.specs.declared.slots.Next.TheVariants as to
 use Rattle.vfs_model.specs.Sound.{IsLook, IsLookBelow, IsLookOf}
 use Rattle.vfs_model.specs.Steps.{is_before_memory}
-use Rattle.vfs_machine.specs.Scans.{running_at, location_of, IsNext, IsLookOfOpen}
+use Rattle.scan_walk.specs.Scans.{running_at, IsNext}
+use Rattle.scan_walk.proofs.LocationLemmas.{IsLocation, location-none, location-some}
 use Rattle.vfs_laws.proofs.EditLemmas.{place-append}
 use Rattle.vfs_laws.proofs.SameLemmas.{same-look}
 use Rattle.vfs_machine.proofs.SlotLemmas.{slot-of, with_slot-stands}
-
--- ---- the next location
-
-location-none : (r : RunningScan) → location_of r ≡ None → next_left r.partial ≡ None
-location-none r h = by (next_left r.partial) h
-  where
-    by : (o : Option Path) → option_map (λ y. r.path ++ y) o ≡ None → o ≡ None
-    by None h = refl
-    by (Some y) h = cc
-
--- the names of the location below the scan's path
-record IsLocation (r : RunningScan) (p : Path) : Type 0 where
-  names : Path
-  next : next_left r.partial ≡ Some names
-  path_is : p ≡ r.path ++ names
-
-location-some : (r : RunningScan) (p : Path) → location_of r ≡ Some p → IsLocation r p
-location-some r p h = by (next_left r.partial) refl h
-  where
-    by : (o : Option Path) → next_left r.partial ≡ o → option_map (λ y. r.path ++ y) o ≡ Some p → IsLocation r p
-    by None e h = cc
-    by (Some y) e h = let is : p ≡ r.path ++ y = cc in record { names = y; next = e; path_is = is }
-
--- the scan is in progress where it has a next location
-pub location-open : (o : Option CasedScan) (p : Path) → IsNext (running_of o) (to.Location p) → is_some o ≡ true
-location-open None p h = absurd h
-location-open (Some s) p h = refl
-
--- a look there is one at the next location of the scan
-pub location-look : (case : Case) (o : Option CasedScan) (p : Path) (l : Look) → IsUnder case o → IsNext (running_of o) (to.Location p) → IsLook case (length p) l → IsLookOfOpen o l
-location-look case None p l is h k = tt
-location-look case (Some s) p l is h k =
-    let at_it = location-some s.scan p h in
-    record {
-      left = ap is_some at_it.next;
-      look = λ y e.
-          let same : at_it.names ≡ y = cc (at_it.next) in
-          let far : length p ≡ length s.scan.path + length y = ap length at_it.path_is ∙ length-append s.scan.path at_it.names ∙ ap (λ z. length s.scan.path + length z) same in
-          coe 0 1 (i. IsLook (sym is i) (far i) l) k;
-    }
-
--- the scan alone goes on there
-pub next-alone : (xs : List (Option CasedScan)) (c : ℕ) (n : Next) → IsNext (running_of (cased_at xs c)) n → IsNext (running_at (scans_in xs) c) n
-next-alone xs c n h = subst (λ (o : Option RunningScan). IsNext o n) (sym (running-is xs c)) h
 
 -- ---- nothing is looked at
 

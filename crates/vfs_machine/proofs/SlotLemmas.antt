@@ -8,7 +8,7 @@ use Rattle.vfs_model.specs.Scanning.{Scan, Unread, contents}
 use Rattle.vfs_model.specs.State.{State, AlreadyOpen, Version, Dropped, open_scan, scan_of, with_scan, begin_or, drop_or}
 use Rattle.vfs_model.specs.Stands.{RunningScan, Parts, Stands, IsSlotOf, AreSlotsOf}
 use Rattle.vfs_model.specs.Steps.{is_before_memory}
-use Rattle.vfs_machine.specs.Scans.{running_at}
+use Rattle.scan_walk.specs.Scans.{running_at}
 
 slot-at : (case : Case) (past : List Path) (rs : List (Option RunningScan)) (ss : List (Option Scan)) (c : ℕ) → AreSlotsOf case past rs ss → IsSlotOf case past (running_at rs c) (open_scan (slice_get ss c))
 slot-at case past [] [] c h = tt

@@ -50,15 +50,13 @@ front-first p e = (λ i. record { events = if sym e i then p.events else drop 1 
 
 -- ---- deliveries
 
--- what a delivery of the place did to all but what is retained
+-- what a delivery of the place did to all but what is retained and kept
 pub record IsRaised {V : Type 0} (at : V → Path → ℕ) (count : V → ℕ) (old new : Parts V) (e : Path) : Type 0 where
   pub case : new.case ≡ old.case
   pub content : new.content ≡ old.content
   pub pending : new.pending ≡ without_front old.pending
   pub past : (past : List Path) → StandsFor (at old.versions) (count old.versions) past → StandsFor (at new.versions) (count new.versions) (past ++ e ∷ [])
   pub scans : new.scans ≡ old.scans
-  pub none_kept : old.kept ≡ []
-  pub kept : new.kept ≡ []
 
 raised-world : {V : Type 0} (at : V → Path → ℕ) (count : V → ℕ) (old new : Parts V) (e : Path) (s : State) → IsRaised at count old new e → Stands at count old s
     → (w : World) → new.content ≡ Some w → IsSameBelow new.case s.world [] w []
@@ -71,9 +69,10 @@ raised-slots at count old new e s r st =
     (subst (λ (l : List (Option RunningScan)). AreSlotsOf old.case (s.past ++ e ∷ []) l s.scans) (sym r.scans) (slots-push old.case s.past e old.scans s.scans st.scans))
 
 delivered-stands : {V : Type 0} (at : V → Path → ℕ) (count : V → ℕ) (old new : Parts V) (e : Path) (s : State)
-    → IsRaised at count old new (place old.case e) → new.retained ≡ after_invalidation old.case (place old.case e) old.retained → old.pending.mark ≡ false → Stands at count old s
+    → IsRaised at count old new (place old.case e) → new.retained ≡ after_invalidation old.case (place old.case e) old.retained
+    → new.kept ≡ filter (λ k. not (is_touched old.case (place old.case e) k)) old.kept → old.pending.mark ≡ false → Stands at count old s
     → Stands at count new (after_delivery s e (drop 1 old.pending.events))
-delivered-stands {V} at count old new e s r gone mark st =
+delivered-stands {V} at count old new e s r gone dropped mark st =
     let P : Case → Type 0 = λ c. StandsFor (at new.versions) (count new.versions) (s.past ++ place c e ∷ []) in
     let Q : Case → Type 0 = λ c. AreSlotsOf new.case (s.past ++ place c e ∷ []) new.scans s.scans in
     record {
@@ -83,38 +82,39 @@ delivered-stands {V} at count old new e s r gone mark st =
       retained = (λ i. after_invalidation (st.case i) (place (st.case i) e) (st.retained i)) ∙ sym gone;
       past = subst P (sym st.case) (r.past s.past st.past);
       scans = subst Q (sym st.case) (raised-slots at count old new (place old.case e) s r st);
-      kept = ap (λ k. filter (λ t. not (is_touched s.case (place s.case e) t)) k) (st.kept ∙ r.none_kept) ∙ sym r.kept;
+      kept = (λ i. filter (λ k. not (is_touched (st.case i) (place (st.case i) e) k)) (st.kept i)) ∙ sym dropped;
     }
 
 -- the first event was delivered
 pub deliver-event : {V : Type 0} (at : V → Path → ℕ) (count : V → ℕ) (old new : Parts V) (e : Path) (s : State)
-    → IsRaised at count old new (place old.case e) → new.retained ≡ after_invalidation old.case (place old.case e) old.retained → old.pending.mark ≡ false → IsFirst old.pending.events e → Stands at count old s
+    → IsRaised at count old new (place old.case e) → new.retained ≡ after_invalidation old.case (place old.case e) old.retained
+    → new.kept ≡ filter (λ k. not (is_touched old.case (place old.case e) k)) old.kept → old.pending.mark ≡ false → IsFirst old.pending.events e → Stands at count old s
     → (Delivered e ≡ (deliver_when s s.pending.mark).reply) × Stands at count new (deliver_when s s.pending.mark).state
-deliver-event {V} at count old new e s r gone mark first st =
+deliver-event {V} at count old new e s r gone dropped mark first st =
     subst (λ (m : Bool). (Delivered e ≡ (deliver_when s m).reply) × Stands at count new (deliver_when s m).state) (sym (ap (λ (p : Pending). p.mark) st.pending ∙ mark))
     (subst (λ (l : List Path). (Delivered e ≡ (deliver_first s l).reply) × Stands at count new (deliver_first s l).state) (sym (ap (λ (p : Pending). p.events) st.pending ∙ first-of old.pending.events e first))
-    (refl, delivered-stands at count old new e s r gone mark st))
+    (refl, delivered-stands at count old new e s r gone dropped mark st))
 
 cleared-stands : {V : Type 0} (at : V → Path → ℕ) (count : V → ℕ) (old new : Parts V) (s : State)
-    → IsRaised at count old new [] → new.retained ≡ nothing → old.pending.mark ≡ true → Stands at count old s
+    → IsRaised at count old new [] → new.retained ≡ nothing → new.kept ≡ [] → old.pending.mark ≡ true → Stands at count old s
     → Stands at count new (after_clear s)
-cleared-stands {V} at count old new s r gone mark st = record {
+cleared-stands {V} at count old new s r gone none_kept mark st = record {
   case = st.case ∙ sym r.case;
   world = raised-world at count old new [] s r st;
   pending = (λ i. record { events = (st.pending i).events; capacity = (st.pending i).capacity; mark = false }) ∙ front-marked old.pending mark ∙ sym r.pending;
   retained = sym gone;
   past = r.past s.past st.past;
   scans = raised-slots at count old new [] s r st;
-  kept = sym r.kept;
+  kept = sym none_kept;
 }
 
 -- the mark was delivered
 pub deliver-mark : {V : Type 0} (at : V → Path → ℕ) (count : V → ℕ) (old new : Parts V) (s : State)
-    → IsRaised at count old new [] → new.retained ≡ nothing → old.pending.mark ≡ true → Stands at count old s
+    → IsRaised at count old new [] → new.retained ≡ nothing → new.kept ≡ [] → old.pending.mark ≡ true → Stands at count old s
     → (Cleared ≡ (deliver_when s s.pending.mark).reply) × Stands at count new (deliver_when s s.pending.mark).state
-deliver-mark {V} at count old new s r gone mark st =
+deliver-mark {V} at count old new s r gone none_kept mark st =
     subst (λ (m : Bool). (Cleared ≡ (deliver_when s m).reply) × Stands at count new (deliver_when s m).state) (sym (ap (λ (p : Pending). p.mark) st.pending ∙ mark))
-    (refl, cleared-stands at count old new s r gone mark st)
+    (refl, cleared-stands at count old new s r gone none_kept mark st)
 
 -- nothing was pending
 pub deliver-none : {V : Type 0} (at : V → Path → ℕ) (count : V → ℕ) (m : Parts V) (s : State) → m.pending.mark ≡ false → m.pending.events ≡ [] → Stands at count m s

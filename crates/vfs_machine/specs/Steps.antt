@@ -7,7 +7,7 @@ use Rattle.vfs_model.specs.Scanning.{Look}
 use Rattle.vfs_model.specs.Sound.{AreLooks}
 use Rattle.vfs_model.specs.Stands.{Parts, Stands}
 use Rattle.vfs_model.specs.Steps.{IsStepOf}
-use Rattle.vfs_model.specs.State.{State, CallRead, Reply, Answers, AreDue, EditAnswer, Refuses, Does, TreeAnswer, ToEdit, ToLook, Refused, Done, Overflow, Fits, Cleared, Delivered, NothingPending, AlreadyOpen, Version, NoScan, AllRead, Saw, Unfinished, Stale, Covered, Stored, Fault, NoMemory}
+use Rattle.vfs_model.specs.State.{State, CallRead, Reply, Answers, AreDue, EditAnswer, Refuses, Does, TreeAnswer, ToEdit, ToLook, Refused, Done, Overflow, Fits, Cleared, Delivered, NothingPending, AlreadyOpen, Version, NoScan, AllRead, Saw, Unfinished, Stale, Covered, Stored, Fault, Is, Unknown, NoMemory}
 use Rattle.world_model.specs.Meaning.{refusal_of}
 use Rattle.world_model.specs.Told.{with_answers}
 use Rattle.world_model.specs.declared.intake.Fit.{Fit}
@@ -22,6 +22,8 @@ use Rattle.vfs_machine.specs.declared.answers.Readed.{Readed}
 use Rattle.vfs_machine.specs.declared.answers.Readed.TheVariants as readed
 use Rattle.vfs_machine.specs.declared.answers.Answer.{Answer}
 use Rattle.vfs_machine.specs.declared.answers.Answer.TheVariants as answer
+use Rattle.vfs_machine.specs.declared.answers.Printed.{Printed}
+use Rattle.vfs_machine.specs.declared.answers.Printed.TheVariants as printed
 
 -- ---- the replies that answers stand for
 
@@ -60,6 +62,11 @@ answer_reply (answer.Stale n) = Stale n
 answer_reply answer.Covered = Covered
 answer_reply answer.Stored = Stored
 answer_reply answer.NoMemory = NoMemory
+
+abbrev pub printed_reply : Printed → Reply
+printed_reply (printed.Is digest) = Is digest
+printed_reply (printed.Unknown n) = Unknown n
+printed_reply printed.NoMemory = NoMemory
 
 -- ---- what the tree answered
 

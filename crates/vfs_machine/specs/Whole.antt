@@ -3,15 +3,16 @@ use Rattle.std.specs.Prelude.{◌≡◌, ℕ, List, [], Option, None, false, rep
 use Rattle.std.specs.List.{AllByRecursion as Each}
 use Rattle.vfs_model.specs.declared.Case.{Case}
 use Rattle.vfs_model.specs.Pending.{Pending}
+use Rattle.vfs_model.specs.State.{KeptPrint}
 use Rattle.vfs_model.specs.Stands.{RunningScan, Parts}
 use Rattle.world_model.specs.Told.{TreeTold}
 use Rattle.snapshot_hierarchy.specs.Held.{Held}
 use Rattle.publish_core.specs.Holds.{Holds}
-use Rattle.vfs_machine.specs.Cased.{CasedScan, IsUnder}
+use Rattle.scan_walk.specs.Cased.{CasedScan, IsUnder}
 
--- the parts of a machine; no fingerprint is kept
-abbrev pub parts_of : {V : Type 0} → TreeTold → Pending → Holds V → List (Option RunningScan) → Parts V
-parts_of told pending holds scans = record {
+-- the parts of a machine
+abbrev pub parts_of : {V : Type 0} → TreeTold → Pending → Holds V → List (Option RunningScan) → List KeptPrint → Parts V
+parts_of told pending holds scans kept = record {
   case = holds.case;
   content = told.content;
   faults = told.faults;
@@ -21,7 +22,7 @@ parts_of told pending holds scans = record {
   log = holds.log;
   versions = holds.versions;
   scans = scans;
-  kept = [];
+  kept = kept;
 }
 
 -- the tree, what is retained and the walks of the scans have one case, and there are sixteen scans
@@ -30,7 +31,7 @@ pub record IsWhole (tree case : Case) (scans : List (Option CasedScan)) : Type 0
   pub sixteen : length scans ≡ 16
   pub walks : Each (IsUnder case) scans
 
--- what a machine keeps at first: sixteen closed scans, and nothing pending
+-- what a machine keeps at first: sixteen closed scans, nothing pending, and no fingerprint
 abbrev pub opening_parts : {V : Type 0} → TreeTold → ℕ → Held → V → Parts V
 opening_parts told queue held versions = record {
   case = held.case;

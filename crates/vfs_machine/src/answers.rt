@@ -1,5 +1,6 @@
 //! What the machine's calls answer.
 
+use merkle_hash::Digest;
 use snapshot_tree::Kind;
 use vfs_path::Path;
 use world_model::EditError;
@@ -71,4 +72,15 @@ pub enum Answer {
     NoMemory,
     /// The snapshot is retained.
     Stored,
+}
+
+/// What came of a fingerprint.
+#[derive(Clone, Copy, Debug, PartialEq, Eq)]
+pub enum Printed {
+    /// The fingerprint.
+    Is(Digest),
+    /// The root of the input with this number, counted from 0, is the first that is not retained.
+    Unknown(u64),
+    /// Want of memory.
+    NoMemory,
 }

@@ -1,6 +1,6 @@
 //! The engine: the parts of a machine, each of whose calls is the model's step.
 
-ghost use Rattle.std.specs.Prelude.{◌≡◌, ◌<◌, ◌≤◌, ◌^◌, ◌+◌, Some, None, [], ◌∷◌, true, false, IfOk, IfErr, IfSome, IsTrue, OnErr, ◌↔◌, ℕ, length, is_some, option_map, replicate};
+ghost use Rattle.std.specs.Prelude.{◌≡◌, ◌<◌, ◌≤◌, ◌^◌, ◌+◌, Some, None, [], ◌∷◌, true, false, IfOk, IfErr, IfSome, IsTrue, OnErr, ◌↔◌, ℕ, length, is_some, map, option_map, replicate};
 ghost use Rattle.std.specs.Option.{option_copied};
 ghost use Rattle.vfs_model.specs.Paths as paths;
 ghost use Rattle.vfs_model.specs.Pending as pending;
@@ -16,21 +16,24 @@ ghost use Rattle.snapshot_tree.specs.Meaning.{meaning_of, glance_of};
 ghost use Rattle.world_model.specs.Meaning.{edit_of, events_of, look_seen};
 ghost use Rattle.world_model.specs.Told.{with_answers};
 ghost use Rattle.vfs_machine.specs.declared.answers.Readed.TheVariants as readed;
-ghost use Rattle.vfs_machine.specs.Cased.{CasedScan, IsUnder, cased_at, running_of};
-ghost use Rattle.vfs_machine.specs.Scans.{running_at, AreDigests, AreContentsOf, IsDone, IsShapedRunning};
+ghost use Rattle.scan_walk.specs.Cased.{CasedScan, IsUnder, cased_at, running_of};
+ghost use Rattle.scan_walk.specs.Scans.{running_at, AreDigests, AreContentsOf, IsDone, IsShapedRunning};
 ghost use Rattle.vfs_machine.specs.Deliveries.{Counts, IsDue, IsWaiting};
 ghost use Rattle.vfs_machine.specs.Whole.{held_of, opening_parts, told_of};
-ghost use Rattle.vfs_machine.specs.Steps.{IsRead, edit_answers, edit_asked, edited_reply, fit_reply, delivered_reply, began_reply, readed_reply, answer_reply};
+ghost use Rattle.vfs_machine.specs.Steps.{IsRead, edit_answers, edit_asked, edited_reply, fit_reply, delivered_reply, began_reply, readed_reply, answer_reply, printed_reply};
+ghost use Rattle.fingerprint_norms.specs.Meaning.{input_of};
 ghost use Rattle.publish_core.specs.Publication.{IsRefusal};
 ghost use Rattle.vfs_model.specs.Retained as spec;
 ghost use Rattle.vfs_machine.specs.Publish.{IsPublished, IsPublishedOf, published_reply, scans_after};
 
-use crate::answers::{Answer, Began, Delivered, Edited, Readed};
-use crate::scan::Scan;
-use crate::slots::{Next, contents_of, is_open, left_of, next_of, see_in, set_scan};
+use crate::answers::{Answer, Began, Delivered, Edited, Printed, Readed};
+use crate::roots::{first_unknown, seen_roots};
 use case_order::{Case, NoMemory, Share};
+use fingerprint_norms::Input;
+use kept_fingerprints::KeptFingerprints;
 use merkle_hash::{Bytes, Digest};
 use publish_core::{Published, Refusal, Vfs};
+use scan_walk::{Next, Scan, contents_of, is_open, left_of, next_of, see_in, set_scan};
 use snapshot_hierarchy::Retain;
 use snapshot_tree::{Glance, Kind, Snapshot};
 use std::alloc::Global;
@@ -52,19 +55,20 @@ pub(crate) struct Engine<T: Tree, R: Retain, V: Versions> {
     intake: Intake,
     vfs: Vfs<R, V>,
     scans: Vec<Option<Scan>>,
+    kept: KeptFingerprints,
 }
 
 impl<T: Tree, R: Retain, V: Versions> Model for Engine<T, R, V> {
     ghost use Rattle.vfs_model.specs.Stands.{Parts};
     ghost use Rattle.vfs_model.specs.Code.{parts_code};
-    ghost use Rattle.vfs_machine.specs.Cased.{scans_in};
+    ghost use Rattle.scan_walk.specs.Cased.{scans_in};
     ghost use Rattle.vfs_machine.specs.Whole.{parts_of, IsWhole};
 
     ghost Value = { Parts V };
 
     ghost coded = { parts_code V.code };
 
-    ghost view = { λ m. parts_of (T.told m.tree) m.intake m.vfs (scans_in m.scans.items) };
+    ghost view = { λ m. parts_of (T.told m.tree) m.intake m.vfs (scans_in m.scans.items) m.kept };
 
     ghost invariant = { λ m. IsWhole (T.told m.tree).case m.vfs.case m.scans.items };
 }
@@ -231,6 +235,7 @@ impl<T: Tree, R: Retain, V: Versions + Drop> Engine<T, R, V> {
         match self.vfs.drop_all() {
             Err(NoMemory) => Delivered::NoMemory,
             Ok(()) => {
+                self.kept.clear();
                 self.intake.drop_front();
                 Delivered::Cleared
             }
@@ -253,6 +258,7 @@ impl<T: Tree, R: Retain, V: Versions + Drop> Engine<T, R, V> {
         match self.vfs.invalidate(&path) {
             Err(NoMemory) => Delivered::NoMemory,
             Ok(()) => {
+                self.kept.drop_related(self.vfs.case(), &path);
                 self.intake.drop_front();
                 Delivered::Event(path)
             }
@@ -535,6 +541,38 @@ impl<T: Tree, R: Retain, V: Versions> Engine<T, R, V> {
     }
 }
 
+impl<T: Tree, R: Retain, V: Versions> Engine<T, R, V> {
+    /// The fingerprint of the inputs: that which is kept for this very list, and else that of what
+    /// is retained at their roots, which is kept from now on; where 64 are kept, the oldest goes.
+    ///
+    /// `Unknown` comes exactly where none is kept for the list and a root is not retained.
+    pub(crate) fn fingerprint(&mut self, inputs: &[Input]) -> Printed
+        ensures step { (a : state.Answers)
+            → IsStepOf V.version V.count self.old self.new a (state.CallFingerprint (map input_of inputs.now)) (printed_reply result) }
+        ensures last { (a : state.Answers)
+            → IsMemoryLast V.version V.count self.old (λ s. state.step a s (state.CallFingerprint (map input_of inputs.now))) (printed_reply result) }
+        ensures content { told_of self.new ≡ told_of self.old }
+        ensures log { self.new.log ≡ self.old.log }
+        ensures versions { self.new.versions ≡ self.old.versions }
+        ensures pending { self.new.pending ≡ self.old.pending }
+    {
+        if let Some(digest) = self.kept.find(inputs) {
+            return Printed::Is(digest);
+        }
+        if let Some(unknown) = first_unknown(&self.vfs, inputs) {
+            return Printed::Unknown(unknown);
+        }
+        let alloc = *self.scans.allocator();
+        let Ok(seen) = seen_roots(alloc, &self.vfs, inputs) else {
+            return Printed::NoMemory;
+        };
+        match self.kept.keep(self.vfs.case(), seen) {
+            Err(NoMemory) => Printed::NoMemory,
+            Ok(digest) => Printed::Is(digest),
+        }
+    }
+}
+
 /// Sixteen closed scans.
 fn closed_scans(alloc: Global) -> Result<Vec<Option<Scan>>, NoMemory>
     ensures { IfOk result (λ scans. scans.items ≡ replicate 16 None) }
@@ -585,6 +623,7 @@ impl<T: Tree, R: Retain, V: Versions + Drop> Engine<T, R, V> {
                 intake,
                 vfs: Vfs::make(retained, versions),
                 scans,
+                kept: KeptFingerprints::new(alloc),
             }),
         }
     }
@@ -599,6 +638,7 @@ impl<T: Tree, R: Retain, V: Versions + Drop> Engine<T, R, V> {
             intake: _,
             vfs,
             scans: _,
+            kept: _,
         } = self;
         (tree, vfs.into_retained())
     }

@@ -5,11 +5,10 @@ mod answers;
 mod digests;
 mod engine;
 mod machine;
-mod scan;
-mod slots;
+mod roots;
 #[cfg(test)]
 mod tests;
 
-pub use answers::{Answer, Began, Delivered, Edited, Readed};
+pub use answers::{Answer, Began, Delivered, Edited, Printed, Readed};
 pub use digests::digests_of;
 pub use machine::Machine;

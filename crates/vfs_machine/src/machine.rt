@@ -1,13 +1,13 @@
 //! The machine.
 
-ghost use Rattle.std.specs.Prelude.{◌≡◌, ◌<◌, ◌≤◌, ◌^◌, ◌+◌, Some, [], List, ℕ, IfOk, IfErr, IfSome, IsTrue, ◌↔◌, length, is_some, option_map};
+ghost use Rattle.std.specs.Prelude.{◌≡◌, ◌<◌, ◌≤◌, ◌^◌, ◌+◌, Some, [], false, List, ℕ, IfOk, IfErr, IfSome, IsTrue, ◌↔◌, length, is_some, map, option_map};
 ghost use Rattle.std.specs.Option.{option_copied};
 ghost use Rattle.vfs_model.specs.Paths as paths;
 ghost use Rattle.vfs_model.specs.Pending as pending;
 ghost use Rattle.vfs_model.specs.Scanning as scanning;
 ghost use Rattle.vfs_model.specs.State as state;
 ghost use Rattle.vfs_model.specs.History as history;
-ghost use Rattle.vfs_model.specs.Sound.{IsSettled, IsSound, AreScanned};
+ghost use Rattle.vfs_model.specs.Sound.{IsSettled, IsSound, AreScanned, fingerprint_of};
 ghost use Rattle.vfs_model.specs.World.{World, IsWorld};
 ghost use Rattle.vfs_model.specs.Faults.{Rose};
 ghost use Rattle.vfs_model.specs.Stands.{Stands, StandsFor, HasSound, KnowsTruth};
@@ -17,15 +17,18 @@ ghost use Rattle.snapshot_hierarchy.specs.Held.{nothing};
 ghost use Rattle.world_model.specs.Meaning.{edit_of};
 ghost use Rattle.world_model.specs.Told.{with_answers};
 ghost use Rattle.vfs_machine.specs.declared.answers.Readed.TheVariants as readed;
-ghost use Rattle.vfs_machine.specs.Scans.{running_at, AreDigests, IsShapedRunning};
+ghost use Rattle.scan_walk.specs.Scans.{running_at, AreDigests, IsShapedRunning};
 ghost use Rattle.vfs_machine.specs.Deliveries.{Counts};
 ghost use Rattle.vfs_machine.specs.Whole.{held_of, opening_parts, told_of};
-ghost use Rattle.vfs_machine.specs.Steps.{IsRead, edit_answers, edit_asked, edited_reply, fit_reply, delivered_reply, began_reply, readed_reply, answer_reply};
+ghost use Rattle.vfs_machine.specs.Steps.{IsRead, edit_answers, edit_asked, edited_reply, fit_reply, delivered_reply, began_reply, readed_reply, answer_reply, printed_reply};
+ghost use Rattle.fingerprint_norms.specs.Meaning.{input_of};
 ghost use Rattle.vfs_machine.specs.Publish.{IsStaleWhere};
 
-use crate::answers::{Answer, Began, Delivered, Edited, Readed};
+use crate::answers::{Answer, Began, Delivered, Edited, Printed, Readed};
 use crate::engine::Engine;
+use crate::roots::ask_roots;
 use case_order::{Case, NoMemory};
+use fingerprint_norms::Input;
 use merkle_hash::{Bytes, Digest};
 use snapshot_hierarchy::Retain;
 use snapshot_tree::{Glance, Kind, Snapshot};
@@ -318,6 +321,36 @@ impl<T: Tree, R: Retain, V: Versions> Machine<T, R, V> {
             → state.Version result ≡ (state.step a s (state.CallVersion path.now)).reply }
     {
         self.engine.version(path)
+    }
+
+    /// The fingerprint of 1 to 64 inputs: that which is kept for this very list, the roots equal in
+    /// spelling, and else that of what is retained at their roots, which is kept from now on; where
+    /// 64 are kept, the oldest goes.
+    ///
+    /// A kept fingerprint goes with the delivery of an event that is related to one of its roots,
+    /// and all go with the mark. `Unknown(i)` comes exactly where none is kept for the list and the
+    /// root of input `i`, counted from 0, is the first that is not retained. Where nothing is
+    /// pending and the tree tells its content, the fingerprint is that of the content.
+    pub fn fingerprint(&mut self, inputs: &[Input]) -> Printed
+        requires some { 1 ≤ length inputs.now }
+        requires few { length inputs.now ≤ 64 }
+        ensures step { (a : state.Answers)
+            → IsStepOf V.version V.count self.old self.new a (state.CallFingerprint (map input_of inputs.now)) (printed_reply result) }
+        ensures last { (a : state.Answers)
+            → IsMemoryLast V.version V.count self.old (λ s. state.step a s (state.CallFingerprint (map input_of inputs.now))) (printed_reply result) }
+        ensures world { (w : World) (digest : List ℕ) → self.old.content ≡ Some w
+            → self.old.pending.events ≡ [] → self.old.pending.mark ≡ false
+            → printed_reply result ≡ state.Is digest
+            → digest ≡ fingerprint_of self.old.case w (map input_of inputs.now) }
+        ensures content { told_of self.new ≡ told_of self.old }
+        ensures log { self.new.log ≡ self.old.log }
+        ensures versions { self.new.versions ≡ self.old.versions }
+        ensures pending { self.new.pending ≡ self.old.pending }
+    {
+        // The tree's word that what it tells is a world.
+        let _case = self.engine.case();
+        ask_roots(inputs);
+        self.engine.fingerprint(inputs)
     }
 }
 

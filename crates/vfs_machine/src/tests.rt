@@ -1,7 +1,7 @@
 //! Scans of a tree in memory, from the edit to what is retained, and events that are lost.
 
 ghost use Rattle.std.specs.Prelude.{◌≡◌, ◌<◌, ◌≤◌, ◌+◌, ◌^◌, IfOk, OnOk, length};
-ghost use Rattle.vfs_machine.specs.Scans.{running_at, AreDigests};
+ghost use Rattle.scan_walk.specs.Scans.{running_at, AreDigests};
 
 use crate::{Answer, Began, Delivered, Edited, Machine, Readed, digests_of};
 use case_order::{Case, NoMemory};

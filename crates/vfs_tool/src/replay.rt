@@ -4,7 +4,7 @@ ghost use Rattle.std.specs.Prelude.{◌≡◌, ◌<◌, ◌+◌, ◌^◌, ◌++�
 ghost use Rattle.vfs_model.specs.Pending as pending;
 ghost use Rattle.vfs_model.specs.State as state;
 ghost use Rattle.world_model.specs.Meaning.{edit_of};
-ghost use Rattle.vfs_machine.specs.Scans.{running_at, AreDigests};
+ghost use Rattle.scan_walk.specs.Scans.{running_at, AreDigests};
 ghost use Rattle.vfs_tool.specs.Report.{by_call, settled, scanned_or, printed};
 ghost use Rattle.vfs_tool.specs.Scanned.{ReadsOn};
 ghost use Rattle.vfs_tool.specs.Printing.{CanRun, IsReady, IsPrinted, IsPrintedOn};

@@ -1,8 +1,8 @@
 use Rattle.std.proofs.Common.{◌≡◌, ◌∙◌, sym, ap, true, false, Some, is_some, slice_set}
 use Rattle.vfs_model.specs.Paths.{place}
 use Rattle.vfs_model.specs.Scanning.{Unread}
-use Rattle.vfs_machine.specs.Cased.{CasedScan, scans_in, cased_at}
-use Rattle.vfs_machine.proofs.CasedLemmas.{set-in, open-alone}
+use Rattle.scan_walk.specs.Cased.{CasedScan, scans_in, cased_at}
+use Rattle.scan_walk.proofs.CasedLemmas.{set-in, open-alone}
 use Rattle.vfs_machine.proofs.SlotLemmas.{begin-open, begin-with, begin-wanting}
 use Rattle.vfs_machine.proofs.engine.Engine.begin.Goals as goal
 

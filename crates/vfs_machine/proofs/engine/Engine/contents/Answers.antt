@@ -1,9 +1,9 @@
 use Rattle.std.proofs.Common.{◌∙◌, sym, ap, IfSome, option_map}
 use Rattle.vfs_model.specs.Scanning.{contents}
 use Rattle.vfs_model.specs.Stands.{RunningScan}
-use Rattle.vfs_machine.specs.Cased.{CasedScan, cased_at}
-use Rattle.vfs_machine.specs.Scans.{IsShapedRunning}
-use Rattle.vfs_machine.proofs.CasedLemmas.{running-is, map-running, shaped-in}
+use Rattle.scan_walk.specs.Cased.{CasedScan, cased_at}
+use Rattle.scan_walk.specs.Scans.{IsShapedRunning}
+use Rattle.scan_walk.proofs.CasedLemmas.{running-is, map-running, shaped-in}
 use Rattle.vfs_machine.proofs.SlotLemmas.{contents-of}
 use Rattle.vfs_machine.proofs.engine.Engine.contents.Goals as goal
 

@@ -1,4 +1,7 @@
-use Rattle.std.proofs.Common.{refl, ◌≡◌, false}
+use Rattle.std.proofs.Common.{refl, ap, ◌≡◌, ◌∙◌, false, filter, not}
+use Rattle.vfs_model.specs.declared.Case.{Case}
+use Rattle.vfs_model.specs.Paths.{place}
+use Rattle.vfs_model.specs.State.{KeptPrint, is_touched}
 use Rattle.world_model.specs.Front.{IsFirst}
 use Rattle.vfs_machine.proofs.StandsLemmas.{deliver-event}
 use Rattle.vfs_machine.proofs.engine.Engine.deliver_event.Goals as goal
@@ -15,7 +18,5 @@ returns-in-Ok-clause-step g c =
       pending = c.drop_front.ensures;
       past = c.in-Ok.ensures.stands;
       scans = refl;
-      none_kept = refl;
-      kept = refl;
     })
-    c.in-Ok.ensures.gone mark first st)
+    c.in-Ok.ensures.gone (c.drop_related.ensures ∙ ap (λ (case : Case). filter (λ (k : KeptPrint). not (is_touched case (place case c.args.path) k)) c.self.inside.kept) (c.case.ensures.case ∙ c.in-Ok.ensures.case)) mark first st)

@@ -13,7 +13,5 @@ returns-in-Ok-clause-step g c =
       pending = c.drop_front.ensures;
       past = c.in-Ok.ensures.stands;
       scans = refl;
-      none_kept = refl;
-      kept = refl;
     })
-    c.in-Ok.ensures.gone mark st)
+    c.in-Ok.ensures.gone c.clear.ensures mark st)

@@ -1,6 +1,6 @@
 use Rattle.std.proofs.Common.{◌≡◌, ◌∙◌, sym, ap, true, false, None, is_some, slice_set}
-use Rattle.vfs_machine.specs.Cased.{scans_in, cased_at}
-use Rattle.vfs_machine.proofs.CasedLemmas.{set-in, open-alone}
+use Rattle.scan_walk.specs.Cased.{scans_in, cased_at}
+use Rattle.scan_walk.proofs.CasedLemmas.{set-in, open-alone}
 use Rattle.vfs_machine.proofs.SlotLemmas.{drop-closed, drop-open}
 use Rattle.vfs_machine.proofs.engine.Engine.drop_scan.Goals as goal
 

@@ -1,10 +1,10 @@
 use Rattle.std.proofs.Common.{◌≡◌, ◌∙◌, ℕ, sym, ap, arith, subst, Option, Some, None, option_map}
 use Rattle.vfs_model.specs.Scanning.{count_left}
 use Rattle.vfs_model.specs.Stands.{RunningScan}
-use Rattle.vfs_machine.specs.Cased.{CasedScan, scans_in, cased_at}
-use Rattle.vfs_machine.specs.Scans.{running_at, AreDigests, AreContentsOf, IsDone}
-use Rattle.vfs_machine.proofs.CasedLemmas.{running-is, count-alone, after-in, under-at, under-after}
-use Rattle.vfs_machine.proofs.PublishLemmas.{publish-closed, publish-unfinished, publish-whole, publish-logged, publish-last, digests-of_contents, done-of_count}
+use Rattle.scan_walk.specs.Cased.{CasedScan, scans_in, cased_at}
+use Rattle.scan_walk.specs.Scans.{running_at, AreDigests, AreContentsOf, IsDone}
+use Rattle.scan_walk.proofs.CasedLemmas.{running-is, count-alone, under-at}
+use Rattle.vfs_machine.proofs.PublishLemmas.{publish-closed, publish-unfinished, publish-whole, publish-logged, publish-last, digests-of_contents, done-of_count, after-in, under-after}
 use Rattle.vfs_machine.proofs.engine.Engine.publish.Goals as goal
 
 pub returns-in-None-clause-step : goal.returns-in-None-clause-step

@@ -3,12 +3,13 @@ use Rattle.vfs_model.specs.declared.Case.{Case}
 use Rattle.vfs_model.specs.Sound.{IsLook}
 use Rattle.vfs_model.specs.State.{ToLook, scan_of}
 use Rattle.world_model.specs.Meaning.{look_seen}
-use Rattle.vfs_machine.specs.declared.slots.Next.TheVariants as to
-use Rattle.vfs_machine.specs.Cased.{running_of, cased_at}
-use Rattle.vfs_machine.specs.Scans.{IsNext, HasNext}
-use Rattle.vfs_machine.proofs.CasedLemmas.{under-at, under-seen, seen-in, left-in}
+use Rattle.scan_walk.specs.declared.slots.Next.TheVariants as to
+use Rattle.scan_walk.specs.Cased.{running_of, cased_at}
+use Rattle.scan_walk.specs.Scans.{IsNext, HasNext}
+use Rattle.scan_walk.proofs.CasedLemmas.{under-at, under-seen, seen-in, left-in}
+use Rattle.scan_walk.proofs.LocationLemmas.{next-alone, location-open, location-look}
 use Rattle.vfs_machine.proofs.ToldLemmas.{none-asked}
-use Rattle.vfs_machine.proofs.ReadLemmas.{next-alone, location-open, location-look, looked-stands, read-closed, read-done, read-failed, read-saw, read-told, no-look, no-word, look-of-state, look-for-state, read-wanting}
+use Rattle.vfs_machine.proofs.ReadLemmas.{looked-stands, read-closed, read-done, read-failed, read-saw, read-told, no-look, no-word, look-of-state, look-for-state, read-wanting}
 use Rattle.vfs_machine.proofs.engine.Engine.read.Goals as goal
 
 -- ---- memory was wanting before the look
@@ -115,7 +116,7 @@ invariant_of-self-2 g c =
     let open_it = location-open (cased_at c.self.inside.scans.items c.args.scan) c.in-Ok-Location.path next in
     record {
       one_case = c.in-Ok.ensures.case ∙ c.self.invariant.one_case;
-      sixteen = c.see_in.ensures.sixteen ∙ c.self.invariant.sixteen;
+      sixteen = c.see_in.ensures.as_many ∙ c.self.invariant.sixteen;
       walks = under-seen c.self.inside.vfs.case c.self.inside.scans.items c.see_in.new.scans.items c.args.scan (look_seen c.in-Ok.entry) c.self.invariant.walks open_it c.in-Ok-see_in.ensures.seen;
     }
 

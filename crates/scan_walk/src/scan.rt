@@ -7,15 +7,15 @@ ghost use Rattle.vfs_model.specs.Scanning as scanning;
 ghost use Rattle.vfs_model.specs.Snapshot.{IsTree};
 ghost use Rattle.snapshot_tree.specs.Meaning.{meaning_of};
 ghost use Rattle.world_model.specs.Meaning.{look_seen};
-ghost use Rattle.vfs_machine.specs.Scans.{IsLookOf, IsShapedRunning, cased_after, location_of};
+ghost use Rattle.scan_walk.specs.Scans.{IsLookOf, IsShapedRunning, cased_after, location_of};
 
+use crate::walk::ScanWalk;
 use case_order::{Case, NoMemory};
 use merkle_hash::{Bytes, Digest};
-use publish_core::Ticket;
-use scan_walk::ScanWalk;
 use snapshot_tree::Snapshot;
 use std::alloc::Global;
 use std::marker::Model;
+use version_hierarchy::Ticket;
 use vfs_path::Path;
 use world_model::Entry;
 
@@ -23,14 +23,14 @@ use world_model::Entry;
 ///
 /// Contracts see the case of the walk, the path, that version, and what was read so far.
 #[derive(Drop)]
-pub(crate) struct Scan {
+pub struct Scan {
     ticket: Ticket,
     walk: ScanWalk,
 }
 
 impl Model for Scan {
     ghost use Rattle.std.specs.Prelude.{◌≡◌};
-    ghost use Rattle.vfs_machine.specs.Cased.{CasedScan, cased_code};
+    ghost use Rattle.scan_walk.specs.Cased.{CasedScan, cased_code};
 
     ghost Value = { CasedScan };
 
@@ -45,29 +45,30 @@ impl Scan {
     /// A scan of the ticket's path, with nothing read.
     ///
     /// The only error is want of memory.
-    pub(crate) fn begin(alloc: Global, case: Case, ticket: Ticket) -> Result<Scan, NoMemory>
+    pub fn begin(alloc: Global, case: Case, ticket: Ticket) -> Result<Scan, NoMemory>
         ensures { IfOk result (λ s. s ≡ record { case = case; scan = record { path = ticket.path; seen = ticket.seen; partial = scanning.Unread } }) }
     {
         let walk = ScanWalk::begin(alloc, case, &ticket.path)?;
         Ok(Scan { ticket, walk })
     }
 
-    pub(crate) fn ticket(&self) -> &Ticket
+    /// The path, and its version at the begin.
+    pub fn ticket(&self) -> &Ticket
         ensures path { result.now.path ≡ self.now.scan.path }
         ensures seen { result.now.seen ≡ self.now.scan.seen }
     {
         &self.ticket
     }
 
-    /// The location to be read next, where one is left.
-    pub(crate) fn next(&self) -> Option<&Path>
+    /// The location to be read next; None exactly where nothing is left.
+    pub fn next(&self) -> Option<&Path>
         ensures { option_copied result ≡ location_of self.now.scan }
     {
         self.walk.next()
     }
 
     /// How many locations are left.
-    pub(crate) fn left(&self) -> u64
+    pub fn left(&self) -> u64
         ensures { result ≡ scanning.count_left self.now.scan.partial }
     {
         self.walk.left()
@@ -75,8 +76,9 @@ impl Scan {
 
     /// The next location was seen.
     ///
-    /// The only error is want of memory; then nothing changed.
-    pub(crate) fn see(&mut self, entry: Entry) -> Result<(), NoMemory>
+    /// A location is left, and the names of a directory are as a look at it lists them. The only
+    /// error is want of memory; then nothing changed.
+    pub fn see(&mut self, entry: Entry) -> Result<(), NoMemory>
         requires { IsLookOf self.old (look_seen entry) }
         ensures seen { OnOk result (self.new ≡ cased_after (look_seen entry) self.old) }
         ensures refused { OnErr result (self.new ≡ self.old) }
@@ -85,7 +87,7 @@ impl Scan {
     }
 
     /// The bytes of the files that were read, in order.
-    pub(crate) fn contents(&self) -> &[Bytes]
+    pub fn contents(&self) -> &[Bytes]
         ensures bytes { result.now ≡ scanning.contents self.now.scan.partial }
         ensures shape { IsShapedRunning self.now.case self.now.scan }
     {
@@ -96,7 +98,7 @@ impl Scan {
     /// The snapshot of what was read, with the digests of its contents.
     ///
     /// The only error is want of memory.
-    pub(crate) fn snapshot(&self, digests: &[Digest]) -> Result<Snapshot, NoMemory>
+    pub fn snapshot(&self, digests: &[Digest]) -> Result<Snapshot, NoMemory>
         requires done { scanning.next_left self.now.scan.partial ≡ None }
         requires digests { digests.now ≡ map digest_of_bytes (scanning.contents self.now.scan.partial) }
         ensures snapshot { IfOk result (λ snapshot. meaning_of snapshot ≡ scanning.snapshot_made self.now.scan.partial) }

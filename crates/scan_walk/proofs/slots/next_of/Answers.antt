@@ -1,9 +1,9 @@
 use Rattle.std.proofs.Common.{◌∙◌, sym, subst, Option}
-use Rattle.vfs_machine.specs.Cased.{CasedScan, running_of}
-use Rattle.vfs_machine.specs.Scans.{IsNext, HasNext}
-use Rattle.vfs_machine.specs.declared.slots.Next.TheVariants as to
-use Rattle.vfs_machine.proofs.CasedLemmas.{cased-read}
-use Rattle.vfs_machine.proofs.slots.next_of.Goals as goal
+use Rattle.scan_walk.specs.Cased.{CasedScan, running_of}
+use Rattle.scan_walk.specs.Scans.{IsNext, HasNext}
+use Rattle.scan_walk.specs.declared.slots.Next.TheVariants as to
+use Rattle.scan_walk.proofs.CasedLemmas.{cased-read}
+use Rattle.scan_walk.proofs.slots.next_of.Goals as goal
 
 pub returns-in-None-clause-next : goal.returns-in-None-clause-next
 returns-in-None-clause-next c =

@@ -5,11 +5,8 @@ use Rattle.vfs_model.specs.declared.Case.{Case}
 use Rattle.vfs_model.specs.Scanning.{Look, count_left, after_look}
 use Rattle.vfs_model.specs.Stands.{RunningScan}
 use Rattle.vfs_laws.proofs.SoundLemmas.{each-set}
-use Rattle.publish_core.specs.declared.published.Published.{Published}
-use Rattle.publish_core.specs.declared.published.Published.TheVariants as answer
-use Rattle.vfs_machine.specs.Cased.{CasedScan, running_of, scans_in, cased_at, IsUnder}
-use Rattle.vfs_machine.specs.Scans.{running_at, cased_after, scan_after, IsShapedRunning}
-use Rattle.vfs_machine.specs.Publish.{scans_after}
+use Rattle.scan_walk.specs.Cased.{CasedScan, running_of, scans_in, cased_at, IsUnder}
+use Rattle.scan_walk.specs.Scans.{running_at, cased_after, scan_after, IsShapedRunning}
 
 -- the scan that is read at the number is the one with the number
 pub cased-read : (xs : List (Option CasedScan)) (c : ℕ) (o : Option CasedScan) → c < length xs → o ≡ get_or xs c o → cased_at xs c ≡ o
@@ -47,13 +44,6 @@ open-alone xs c b h = ap is_some (running-is xs c) ∙ same (cased_at xs c) ∙ 
     same None = refl
     same (Some s) = refl
 
--- the scans are closed after a publication as they are alone
-pub after-in : (xs : List (Option CasedScan)) (c : ℕ) (result : Published) → scans_in (scans_after xs c result) ≡ scans_after (scans_in xs) c result
-after-in xs c (answer.Stale n) = set-in xs c None
-after-in xs c answer.Covered = set-in xs c None
-after-in xs c answer.Stored = set-in xs c None
-after-in xs c answer.NoMemory = refl
-
 -- ---- a look
 
 -- the scan after a look, seen alone
@@ -89,13 +79,6 @@ under-seen case xs new c l all some h = by (cased_at xs c) (under-at case xs c a
     by : (o : Option CasedScan) → IsUnder case o → is_some o ≡ true → IfSome o (λ s. new ≡ slice_set xs c (Some (cased_after l s))) → Each (IsUnder case) new
     by None is some h = cc
     by (Some s) is some h = subst (Each (IsUnder case)) (sym h) (each-set (IsUnder case) xs c (Some (cased_after l s)) is all)
-
--- and after a publication
-pub under-after : (case : Case) (xs : List (Option CasedScan)) (c : ℕ) (result : Published) → Each (IsUnder case) xs → Each (IsUnder case) (scans_after xs c result)
-under-after case xs c (answer.Stale n) h = each-set (IsUnder case) xs c None tt h
-under-after case xs c answer.Covered h = each-set (IsUnder case) xs c None tt h
-under-after case xs c answer.Stored h = each-set (IsUnder case) xs c None tt h
-under-after case xs c answer.NoMemory h = h
 
 -- the scan is in shape under the one case
 pub shaped-in : (case : Case) (xs : List (Option CasedScan)) (c : ℕ) → Each (IsUnder case) xs → IfSome (cased_at xs c) (λ s. IsShapedRunning s.case s.scan) → IfSome (running_at (scans_in xs) c) (IsShapedRunning case)

@@ -7,9 +7,9 @@ use Rattle.vfs_model.specs.World.{digest_of_bytes}
 use Rattle.vfs_model.specs.Scanning.{Look, next_left, after_look, contents, IsPartialTree, IsShallow, IsFront}
 use Rattle.vfs_model.specs.Sound.{IsLook}
 use Rattle.vfs_model.specs.Stands.{RunningScan}
-use Rattle.vfs_machine.specs.Cased.{CasedScan}
-use Rattle.vfs_machine.specs.declared.slots.Next.{Next}
-use Rattle.vfs_machine.specs.declared.slots.Next.TheVariants as to
+use Rattle.scan_walk.specs.Cased.{CasedScan}
+use Rattle.scan_walk.specs.declared.slots.Next.{Next}
+use Rattle.scan_walk.specs.declared.slots.Next.TheVariants as to
 
 -- a scan that is in progress, where the number is one of a scan
 abbrev pub open_slot : Option (Option RunningScan) → Option RunningScan
