@@ -14,7 +14,7 @@ use Rattle.script_text.specs.declared.script.TextKind.{TextKind}
 use Rattle.script_text.specs.declared.script.Opening.{Opening}
 use Rattle.script_text.specs.declared.script.Opening.TheVariants.{Case, Queue, Places, Workers, Dir, File}
 use Rattle.script_text.specs.declared.script.Command.{Command}
-use Rattle.script_text.specs.declared.script.Command.TheVariants.{Edit, Event, Lose, Deliver, Settle, Begin, Read, Publish, Abandon, Scan, Find, KindOf, VersionOf}
+use Rattle.script_text.specs.declared.script.Command.TheVariants.{Edit, Event, Lose, Deliver, Settle, Begin, Read, Publish, Abandon, Scan, Find, KindOf, VersionOf, Print, Build}
 use Rattle.script_text.specs.declared.script.Line.{Line}
 use Rattle.script_text.specs.declared.script.Script.{Script}
 use Rattle.script_text.specs.Steps.{◌>>=◌}
@@ -151,6 +151,8 @@ no_word (Scan path) h = no_path_form _ path h
 no_word (Find path) h = no_path_form _ path h
 no_word (KindOf path) h = no_path_form _ path h
 no_word (VersionOf path) h = no_path_form _ path h
+no_word (Print inputs) h = absurd (let e = h.3 in cc)
+no_word (Build inputs) h = absurd (let e = h.3 in cc)
 
 command_read_by : (kind : TextKind) (s : Script) (n : ℕ) (c : Command) (words : List (List ℕ)) → IsCommand c words → is_in kind c ≡ true → with_command kind s n words ≡ Ok (with_line s (record { caller = n; command = c }))
 command_read_by kind s n c [] h ok = absurd (no_word c h)

@@ -1,10 +1,11 @@
 -- The forms of lines: what is read is of its form, and what is of a form is read.
-use Rattle.std.proofs.Common.{◌≡◌, ℕ, ◌≤◌, Bool, true, false, cond, ltb, leb, ◌&&◌, List, [], ◌∷◌, length, Option, Some, None, Result, Ok, Err, refl, sym, ap, subst, arith, inl, inr, ◌⊎◌, lit≤, Decides}
+use Rattle.std.proofs.Common.{◌≡◌, ℕ, ◌≤◌, Bool, true, false, cond, ltb, leb, ◌&&◌, List, [], ◌∷◌, ◌++◌, length, take, drop, map, Option, Some, None, Result, Ok, Err, refl, sym, ap, ◌∙◌, subst, arith, inl, inr, ◌⊎◌, lit≤, Decides}
 use Rattle.std.specs.Prelude.{codes}
 use Rattle.std.specs.Str.{bytes_eq}
 use Rattle.std.specs.List.{AllByRecursion}
 use Rattle.std.specs.Fmt.{decimal}
 use Rattle.std.proofs.lemmas.Bool.{ltb-false, le-ltb, leb-true, le-leb}
+use Rattle.std.proofs.lemmas.List.{length-map, take-append-drop}
 use Rattle.std.proofs.lemmas.Slice.Eq.{bytes_eq-Decides}
 use Rattle.vfs_model.specs.declared.Case.{Case as NameCase}
 use Rattle.vfs_model.specs.declared.Case.TheVariants.{Sensitive, Insensitive}
@@ -12,16 +13,19 @@ use Rattle.vfs_model.specs.Paths.{Path}
 use Rattle.vfs_path.specs.declared.error.PathError.{PathError}
 use Rattle.vfs_path.specs.Texts.{IsPath, path_of, path_text}
 use Rattle.world_model.specs.declared.edit.Edit.TheVariants.{Write, Mkdir, Remove, Move}
+use Rattle.fingerprint_norms.specs.declared.input.Input.{Input}
+use Rattle.fingerprint_norms.specs.declared.input.Sensitivity.{Sensitivity}
+use Rattle.fingerprint_norms.specs.declared.input.Sensitivity.TheVariants.{Absolute, Relative, NameOnly, Ignored}
 use Rattle.script_text.specs.declared.cause.Cause.{Cause}
 use Rattle.script_text.specs.declared.cause.Cause.TheVariants as causes
 use Rattle.script_text.specs.declared.script.Opening.{Opening}
 use Rattle.script_text.specs.declared.script.Opening.TheVariants.{Case, Queue, Places, Workers, Dir, File}
 use Rattle.script_text.specs.declared.script.Command.{Command}
-use Rattle.script_text.specs.declared.script.Command.TheVariants.{Edit, Event, Lose, Deliver, Settle, Begin, Read, Publish, Abandon, Scan, Find, KindOf, VersionOf}
-use Rattle.script_text.specs.Steps.{◌>>=◌}
+use Rattle.script_text.specs.declared.script.Command.TheVariants.{Edit, Event, Lose, Deliver, Settle, Begin, Read, Publish, Abandon, Scan, Find, KindOf, VersionOf, Print, Build}
+use Rattle.script_text.specs.Steps.{◌>>=◌, all_from}
 use Rattle.script_reader.specs.Numbers.{number_of}
-use Rattle.script_reader.specs.Forms.{Form, or_bad_path, path_from, content_from, file_from, within, case_from, no_more, one_path, two_paths, one_file, one_number, one_case, alone, with_path, with_two_paths, with_file, with_number, with_case, form_named, unknown, opening_forms, plain_forms, edit_forms, path_forms, opening_of, plain_command_of, path_command_of, command_of}
-use Rattle.script_text.specs.Grammar.{IsFileForm, IsPathForm, IsTwoPathForm, IsNumberForm, case_word, IsCaseForm, IsOpening, IsCommand}
+use Rattle.script_reader.specs.Forms.{Form, or_bad_path, path_from, content_from, file_from, within, case_from, no_more, one_path, two_paths, one_file, one_number, one_case, alone, with_path, with_two_paths, with_file, with_number, with_case, behind, cut_or, cut_input, input_with, input_from, some_inputs, with_inputs, form_named, unknown, opening_forms, plain_forms, input_forms, edit_forms, path_forms, opening_of, plain_command_of, input_command_of, path_command_of, command_of}
+use Rattle.script_text.specs.Grammar.{IsFileForm, IsPathForm, IsTwoPathForm, IsNumberForm, case_word, IsCaseForm, sensitivity_word, input_word, IsInputsForm, IsOpening, IsCommand}
 use Rattle.script_text.proofs.Digits.{both}
 use Rattle.script_reader.proofs.NumberLemmas.{decimal_of_number, number_of_decimal}
 use Rattle.vfs_path.proofs.TextLaws.{path_text-from_text, IsPath-from_text, path_of-path_text}
@@ -37,6 +41,9 @@ done x = Ok x
 
 pub ok_is : {A : Type 0} (x y : A) → done x ≡ done y → x ≡ y
 ok_is x y e = cc
+
+pub some_is : {A : Type 0} (x y : A) → Some x ≡ Some y → x ≡ y
+some_is x y e = cc
 
 pub guard_ok : {A : Type 0} (b : Bool) (d : Cause) (x : Result A Cause) (z : A) → cond b (Err d) x ≡ Ok z → (b ≡ false) × (x ≡ Ok z)
 guard_ok true d x z e = absurd cc
@@ -182,6 +189,80 @@ one_case_is (word ∷ v ∷ more) case e = absurd cc
 one_case_again : (args : List (List ℕ)) (case : NameCase) → args ≡ case_word case ∷ [] → one_case args ≡ Ok case
 one_case_again args case h = rw h (case_from_again case)
 
+-- the word has the front, and this behind it
+behind_is : (front word text : List ℕ) → behind front word ≡ Some text → word ≡ front ++ text
+behind_is front word text e = by (bytes_eq (take (length front) word) front) (bytes_eq-Decides (take (length front) word) front) e
+  where
+    by : (b : Bool) → Decides b (take (length front) word ≡ front) → cond b (Some (drop (length front) word)) None ≡ Some text → word ≡ front ++ text
+    by true d h = let same : drop (length front) word ≡ text = some_is _ _ h in sym (take-append-drop (length front) word) ∙ (λ i. d.0 refl i ++ same i)
+    by false d h = absurd cc
+
+-- what an input's word begins with, and what stands behind that
+pub cut_is : (word : List ℕ) (parts : Sensitivity × List ℕ) → cut_input word ≡ Some parts → word ≡ sensitivity_word parts.0 ++ parts.1
+cut_is word parts e =
+    step Absolute (behind (codes "abs:") word) _ refl
+    (step Relative (behind (codes "rel:") word) _ refl
+    (step NameOnly (behind (codes "name:") word) _ refl
+    (step Ignored (behind (codes "none:") word) None refl (λ h. absurd cc))))
+    e
+  where
+    step : (s : Sensitivity) (o : Option (List ℕ)) (other : Option (Sensitivity × List ℕ)) → behind (sensitivity_word s) word ≡ o → (other ≡ Some parts → word ≡ sensitivity_word parts.0 ++ parts.1)
+        → cut_or s o other ≡ Some parts → word ≡ sensitivity_word parts.0 ++ parts.1
+    step s None other is later h = later h
+    step s (Some text) other is later h =
+        subst (λ (p : Sensitivity × List ℕ). word ≡ sensitivity_word p.0 ++ p.1) (some_is (s, text) parts h) (behind_is (sensitivity_word s) word text is)
+
+pub cut_again : (s : Sensitivity) (text : List ℕ) → cut_input (sensitivity_word s ++ text) ≡ Some (s, text)
+cut_again Absolute text = refl
+cut_again Relative text = refl
+cut_again NameOnly text = refl
+cut_again Ignored text = refl
+
+input_with_is : (o : Option (Sensitivity × List ℕ)) (i : Input) → input_with o ≡ Ok i → (o ≡ Some (i.sensitivity, path_text i.root)) × IsPath i.root
+input_with_is None i e = absurd cc
+input_with_is (Some parts) i e =
+    let b = bind_ok (path_from parts.1) (λ root. Ok (record { root = root; sensitivity = parts.0 })) i e in
+    let read = path_from_is parts.1 b.0 b.1 in
+    let made : Input = record { root = b.0; sensitivity = parts.0 } in
+    subst (λ (j : Input). (Some parts ≡ Some (j.sensitivity, path_text j.root)) × IsPath j.root) (ok_is made i b.2) (ap (λ (t : List ℕ). Some (parts.0, t)) read.0, read.1)
+
+input_is : (word : List ℕ) (i : Input) → input_from word ≡ Ok i → (word ≡ input_word i) × IsPath i.root
+input_is word i e = let h = input_with_is (cut_input word) i e in (cut_is word (i.sensitivity, path_text i.root) h.0, h.1)
+
+pub input_again : (i : Input) → IsPath i.root → input_from (input_word i) ≡ Ok i
+input_again i is = rw (cut_again i.sensitivity (path_text i.root), path_from_again i.root is) refl
+
+all_inputs_are : (args : List (List ℕ)) (inputs : List Input) → all_from input_from args ≡ Ok inputs → (args ≡ map input_word inputs) × AllByRecursion (λ (i : Input). IsPath i.root) inputs
+all_inputs_are [] inputs e = subst (λ (is : List Input). ([] ≡ map input_word is) × AllByRecursion (λ (i : Input). IsPath i.root) is) (ok_is [] inputs e) (refl, tt)
+all_inputs_are (word ∷ args) inputs e =
+    let b = bind_ok (input_from word) (λ i. all_from input_from args >>= λ is. Ok (i ∷ is)) inputs e in
+    let d = bind_ok (all_from input_from args) (λ is. Ok (b.0 ∷ is)) inputs b.2 in
+    let one = input_is word b.0 b.1 in
+    let rest = all_inputs_are args d.0 d.1 in
+    subst (λ (is : List Input). (word ∷ args ≡ map input_word is) × AllByRecursion (λ (i : Input). IsPath i.root) is) (ok_is (b.0 ∷ d.0) inputs d.2)
+    (cons_same word (input_word b.0) args (map input_word d.0) one.0 rest.0, (one.1, rest.1))
+
+all_inputs_again : (inputs : List Input) → AllByRecursion (λ (i : Input). IsPath i.root) inputs → all_from input_from (map input_word inputs) ≡ Ok inputs
+all_inputs_again [] h = refl
+all_inputs_again (i ∷ inputs) h = rw (input_again i h.0, all_inputs_again inputs h.1) refl
+
+-- the words after the name of a form with inputs
+abbrev InputWords : List Input → List (List ℕ) → Type 0
+InputWords inputs args = (1 ≤ length inputs) × (length inputs ≤ 64) × AllByRecursion (λ (i : Input). IsPath i.root) inputs × (args ≡ map input_word inputs)
+
+some_inputs_are : (args : List (List ℕ)) (inputs : List Input) → some_inputs args ≡ Ok inputs → InputWords inputs args
+some_inputs_are args inputs e =
+    let g = passed_ok (leb 1 (length args) && leb (length args) 64) causes.WrongCount (all_from input_from args) inputs e in
+    let b = both (leb 1 (length args)) (leb (length args) 64) g.0 in
+    let h = all_inputs_are args inputs g.1 in
+    let same : length args ≡ length inputs = ap length h.0 ∙ length-map inputs input_word in
+    (subst (λ (n : ℕ). 1 ≤ n) same (leb-true 1 (length args) b.0), subst (λ (n : ℕ). n ≤ 64) same (leb-true (length args) 64 b.1), h.1, h.0)
+
+some_inputs_again : (inputs : List Input) (args : List (List ℕ)) → InputWords inputs args → some_inputs args ≡ Ok inputs
+some_inputs_again inputs args h =
+    let same : length (map input_word inputs) ≡ length inputs = length-map inputs input_word in
+    rw (h.3, same, le-leb 1 (length inputs) h.0, le-leb (length inputs) 64 h.1) (all_inputs_again inputs h.2)
+
 -- ---- rows of a table
 
 -- the row of the word, or a later one
@@ -257,6 +338,13 @@ case_row Is name make is word args x w e =
     let i = one_case_is args b.0 b.1 in
     subst (λ (y : _). Is y (word ∷ args)) (ok_is (make b.0) x b.2) (is b.0 (word ∷ args) (cons_same word name args (case_word b.0 ∷ []) w i))
 
+inputs_row : {X : Type 0} (Is : X → List (List ℕ) → Type 0) (name : List ℕ) (make : List Input → X) → ((inputs : List Input) (words : List (List ℕ)) → IsInputsForm name inputs words → Is (make inputs) words) → RowIs Is (name, with_inputs make)
+unfolding RowIs
+inputs_row Is name make is word args x w e =
+    let b = bind_ok (some_inputs args) (λ inputs. Ok (make inputs)) x e in
+    let i = some_inputs_are args b.0 b.1 in
+    subst (λ (y : _). Is y (word ∷ args)) (ok_is (make b.0) x b.2) (is b.0 (word ∷ args) (i.0, i.1, i.2, cons_same word name args (map input_word b.0) w i.3))
+
 -- ---- opening lines and commands, row by row
 
 pub opening_is : (word : List ℕ) (args : List (List ℕ)) (opening : Opening) → opening_of word args ≡ Ok opening → IsOpening opening (word ∷ args)
@@ -307,10 +395,16 @@ plain_command_is word =
     )
     (unknown_is IsCommand word)
 
+input_command_is : (word : List ℕ) → OtherIs IsCommand word (input_command_of word)
+unfolding OtherIs input_command_of
+input_command_is word =
+    table_is IsCommand input_forms (plain_command_of word) word (inputs_row IsCommand (codes "print") Print (λ inputs words h. h), (inputs_row IsCommand (codes "build") Build (λ inputs words h. h), tt))
+    (plain_command_is word)
+
 path_command_is : (word : List ℕ) → OtherIs IsCommand word (path_command_of word)
 unfolding OtherIs path_command_of
 path_command_is word =
-    table_is IsCommand path_forms (plain_command_of word) word (
+    table_is IsCommand path_forms (input_command_of word) word (
       path_row IsCommand (codes "event") Event (λ path words h. h),
       (
         path_row IsCommand (codes "begin") Begin (λ path words h. h),
@@ -329,7 +423,7 @@ path_command_is word =
         ),
       ),
     )
-    (plain_command_is word)
+    (input_command_is word)
 
 pub command_is : (word : List ℕ) (args : List (List ℕ)) (command : Command) → command_of word args ≡ Ok command → IsCommand command (word ∷ args)
 unfolding command_of
@@ -378,6 +472,11 @@ case_row_again name word args make case h =
     let e = parts_of word name args (case_word case ∷ []) h in
     (e.0, rw (one_case_again args case e.1) refl)
 
+inputs_row_again : {X : Type 0} (name word : List ℕ) (args : List (List ℕ)) (make : List Input → X) (inputs : List Input) → IsInputsForm name inputs (word ∷ args) → (word ≡ name) × (with_inputs make args ≡ Ok (make inputs))
+inputs_row_again name word args make inputs h =
+    let e = parts_of word name args (map input_word inputs) h.3 in
+    (e.0, rw (some_inputs_again inputs args (h.0, h.1, h.2, e.1)) refl)
+
 pub opening_again : (opening : Opening) (word : List ℕ) (args : List (List ℕ)) → IsOpening opening (word ∷ args) → opening_of word args ≡ Ok opening
 unfolding opening_of
 opening_again (Case case) word args h = let r = case_row_again (codes "case") word args Case case h in rw r.0 r.1
@@ -388,7 +487,7 @@ opening_again (Dir path) word args h = let r = path_row_again (codes "dir") word
 opening_again (File path bytes) word args h = let r = file_row_again (codes "file") word args File path bytes h in rw r.0 r.1
 
 pub command_again : (command : Command) (word : List ℕ) (args : List (List ℕ)) → IsCommand command (word ∷ args) → command_of word args ≡ Ok command
-unfolding command_of path_command_of plain_command_of
+unfolding command_of path_command_of input_command_of plain_command_of
 command_again (Edit (Write path bytes)) word args h = let r = file_row_again (codes "write") word args (λ p bs. Edit (Write p bs)) path bytes h in rw r.0 r.1
 command_again (Edit (Mkdir path)) word args h = let r = path_row_again (codes "mkdir") word args (λ p. Edit (Mkdir p)) path h in rw r.0 r.1
 command_again (Edit (Remove path)) word args h = let r = path_row_again (codes "remove") word args (λ p. Edit (Remove p)) path h in rw r.0 r.1
@@ -405,3 +504,5 @@ command_again (Scan path) word args h = let r = path_row_again (codes "scan") wo
 command_again (Find path) word args h = let r = path_row_again (codes "find") word args Find path h in rw r.0 r.1
 command_again (KindOf path) word args h = let r = path_row_again (codes "kind") word args KindOf path h in rw r.0 r.1
 command_again (VersionOf path) word args h = let r = path_row_again (codes "version") word args VersionOf path h in rw r.0 r.1
+command_again (Print inputs) word args h = let r = inputs_row_again (codes "print") word args Print inputs h in rw r.0 r.1
+command_again (Build inputs) word args h = let r = inputs_row_again (codes "build") word args Build inputs h in rw r.0 r.1

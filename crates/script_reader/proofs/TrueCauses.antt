@@ -12,23 +12,26 @@ use Rattle.vfs_model.specs.declared.Case.TheVariants.{Sensitive, Insensitive}
 use Rattle.vfs_model.specs.Paths.{Path}
 use Rattle.vfs_path.specs.declared.error.PathError.{PathError}
 use Rattle.vfs_path.specs.Texts.{path_of, is_empty}
+use Rattle.fingerprint_norms.specs.declared.input.Input.{Input}
+use Rattle.fingerprint_norms.specs.declared.input.Sensitivity.{Sensitivity}
+use Rattle.fingerprint_norms.specs.declared.input.Sensitivity.TheVariants.{Absolute}
 use Rattle.script_text.specs.declared.cause.Cause.{Cause}
-use Rattle.script_text.specs.declared.cause.Cause.TheVariants.{UnknownWord, WrongCount, BadNumber, BadPath, TooLarge, EmptyWord, BadEscape, BadCaller, LateSetting, Repeated}
+use Rattle.script_text.specs.declared.cause.Cause.TheVariants.{UnknownWord, WrongCount, BadNumber, BadPath, TooLarge, BadInput, EmptyWord, BadEscape, BadCaller, LateSetting, Repeated}
 use Rattle.script_text.specs.declared.script.TextKind.{TextKind}
 use Rattle.script_text.specs.declared.script.TextKind.TheVariants.{Replay}
 use Rattle.script_text.specs.declared.script.Opening.{Opening}
 use Rattle.script_text.specs.declared.script.Opening.TheVariants as openings
 use Rattle.script_text.specs.declared.script.Script.{Script}
-use Rattle.script_text.specs.Steps.{◌>>=◌}
+use Rattle.script_text.specs.Steps.{◌>>=◌, all_from}
 use Rattle.script_reader.specs.Numbers.{number_of}
 use Rattle.script_text.specs.Words.{is_note, hex_of, hex_pair, named_before, value_of, values_of, words_of}
-use Rattle.script_reader.specs.Forms.{Form, or_bad_path, path_from, content_from, file_from, within, case_from, two_paths, one_file, alone, with_path, with_two_paths, with_file, with_number, with_case, form_named, unknown, opening_forms, plain_forms, edit_forms, path_forms, opening_of, plain_command_of, path_command_of, command_of}
+use Rattle.script_reader.specs.Forms.{Form, or_bad_path, path_from, content_from, file_from, within, case_from, two_paths, one_file, alone, with_path, with_two_paths, with_file, with_number, with_case, cut_input, input_with, input_from, some_inputs, with_inputs, form_named, unknown, opening_forms, plain_forms, input_forms, edit_forms, path_forms, opening_of, plain_command_of, input_command_of, path_command_of, command_of}
 use Rattle.script_reader.specs.Reading.{with_opening, with_line, caller_from, with_setting, with_command, with_words, after_line}
 use Rattle.script_text.specs.Set.{is_same_setting}
-use Rattle.script_text.specs.Grammar.{case_word, IsOpening, IsCommand}
-use Rattle.script_reader.specs.Holds.{HasOne, IsNoNumber, HasBadNumber, case, queue, places, workers, HoldsOfWords, Holds, empty, escape, caller, late, number, repeated, setting, command}
+use Rattle.script_text.specs.Grammar.{case_word, sensitivity_word, input_word, IsOpening, IsCommand}
+use Rattle.script_reader.specs.Holds.{HasOne, IsNoNumber, HasBadNumber, case, queue, places, workers, takes_inputs, IsInputOf, IsNoInput, HoldsOfWords, Holds, empty, escape, caller, late, number, repeated, setting, command}
 use Rattle.script_reader.proofs.NumberLemmas.{decimal_of_number, number_of_decimal}
-use Rattle.script_reader.proofs.Tables.{bind_ok, done, ok_is, path_from_again, opening_is, opening_again, command_is, command_again}
+use Rattle.script_reader.proofs.Tables.{bind_ok, done, ok_is, path_from_again, cut_is, cut_again, input_again, opening_is, opening_again, command_is, command_again}
 use Rattle.script_reader.proofs.LineLaws.{none_of, caller_is}
 use Rattle.vfs_path.proofs.Cuts.{split_some}
 
@@ -126,16 +129,13 @@ words_err s text c e = words_err_by s text c (list_any is_empty (slice_split (λ
 abbrev IsSome : {X : Type 0} → Form X → Type 0
 IsSome {X} form = (args : List (List ℕ)) × (x : X) × (form args ≡ Ok x)
 
--- what a form's cause says of the words after the second; of a bad number, what N says
-abbrev Tells : {X : Type 0} → (List (List ℕ) → Type 0) → Form X → List (List ℕ) → Cause → Type 0
+-- what a form's cause says of the words after the second; of one that lies with a word, what N says
+abbrev Tells : {X : Type 0} → (Cause → List (List ℕ) → Type 0) → Form X → List (List ℕ) → Cause → Type 0
 Tells N form args UnknownWord = (other : List (List ℕ)) → form other ≡ Err UnknownWord
 Tells {X} N form args WrongCount = ((other : List (List ℕ)) → length other ≡ length args → form other ≡ Err WrongCount) × IsSome form
-Tells N form args BadNumber = N args
-Tells N form args (BadPath refusal) = HasOne (λ word. path_of word ≡ Err refusal) args
-Tells N form args TooLarge = HasOne (λ word. 1048576 < length word) args
-Tells N form args _ = ⊥
+Tells N form args cause = N cause args
 
-abbrev FormTells : {X : Type 0} → (List (List ℕ) → Type 0) → Form X → Type 0
+abbrev FormTells : {X : Type 0} → (Cause → List (List ℕ) → Type 0) → Form X → Type 0
 FormTells N form = (args : List (List ℕ)) (c : Cause) → form args ≡ Err c → Tells N form args c
 
 -- the words have a path that is refused with the cause, or bytes that are too many
@@ -149,12 +149,17 @@ cause_later word args (BadPath refusal) h = word_later (λ text. path_of text �
 cause_later word args TooLarge h = word_later (λ bytes. 1048576 < length bytes) word args h
 cause_later word args _ h = absurd h
 
-word_tells : {X : Type 0} (N : List (List ℕ) → Type 0) (form : Form X) (args : List (List ℕ)) (c : Cause) → IsWordCause args c → Tells N form args c
-word_tells N form args (BadPath refusal) h = h
-word_tells N form args TooLarge h = h
-word_tells N form args _ h = absurd h
+-- such a cause is told by N
+Lifts : (Cause → List (List ℕ) → Type 0) → Type 0
+Lifts N = (args : List (List ℕ)) (c : Cause) → IsWordCause args c → N c args
 
-count_tells : {X : Type 0} (N : List (List ℕ) → Type 0) (form : Form X) (args : List (List ℕ)) (c : Cause) → failed {A = X} WrongCount ≡ Err c → IsSome form → ((other : List (List ℕ)) → length other ≡ length args → form other ≡ Err WrongCount) → Tells N form args c
+word_tells : {X : Type 0} (N : Cause → List (List ℕ) → Type 0) (form : Form X) → Lifts N → (args : List (List ℕ)) (c : Cause) → IsWordCause args c → Tells N form args c
+unfolding Lifts
+word_tells N form lift args (BadPath refusal) h = lift args (BadPath refusal) h
+word_tells N form lift args TooLarge h = lift args TooLarge h
+word_tells N form lift args _ h = absurd h
+
+count_tells : {X : Type 0} (N : Cause → List (List ℕ) → Type 0) (form : Form X) (args : List (List ℕ)) (c : Cause) → failed {A = X} WrongCount ≡ Err c → IsSome form → ((other : List (List ℕ)) → length other ≡ length args → form other ≡ Err WrongCount) → Tells N form args c
 count_tells {X} N form args c e some h = subst (λ (d : Cause). Tells N form args d) (err_is X WrongCount c e) (h, some)
 
 -- the text of the root, and the words that it makes
@@ -195,7 +200,7 @@ alone_many : {X : Type 0} (it : X) (other : List (List ℕ)) → (length other �
 alone_many it [] ne = absurd (ne refl)
 alone_many it (w ∷ ws) ne = refl
 
-alone_tells : {X : Type 0} (N : List (List ℕ) → Type 0) (it : X) → FormTells N (alone it)
+alone_tells : {X : Type 0} (N : Cause → List (List ℕ) → Type 0) (it : X) → FormTells N (alone it)
 alone_tells N it [] c e = absurd cc
 alone_tells N it (w ∷ ws) c e = count_tells N (alone it) (w ∷ ws) c e ([], it, refl) (λ other same. alone_many it other (λ zero. absurd (omega arith)))
 
@@ -204,10 +209,10 @@ path_many make [] ne = refl
 path_many make (w ∷ []) ne = absurd (ne refl)
 path_many make (w ∷ v ∷ ws) ne = refl
 
-path_tells : {X : Type 0} (N : List (List ℕ) → Type 0) (make : Path → X) → FormTells N (with_path make)
-path_tells N make [] c e = count_tells N (with_path make) [] c e (path_some make) (λ other same. path_many make other (λ one. absurd (omega arith)))
-path_tells N make (w ∷ []) c e = word_tells N (with_path make) (w ∷ []) c (path_err w [] c (only_first (path_from w) make c e))
-path_tells N make (w ∷ v ∷ ws) c e = count_tells N (with_path make) (w ∷ v ∷ ws) c e (path_some make) (λ other same. path_many make other (λ one. absurd (omega arith)))
+path_tells : {X : Type 0} (N : Cause → List (List ℕ) → Type 0) → Lifts N → (make : Path → X) → FormTells N (with_path make)
+path_tells N lift make [] c e = count_tells N (with_path make) [] c e (path_some make) (λ other same. path_many make other (λ one. absurd (omega arith)))
+path_tells N lift make (w ∷ []) c e = word_tells N (with_path make) lift (w ∷ []) c (path_err w [] c (only_first (path_from w) make c e))
+path_tells N lift make (w ∷ v ∷ ws) c e = count_tells N (with_path make) (w ∷ v ∷ ws) c e (path_some make) (λ other same. path_many make other (λ one. absurd (omega arith)))
 
 two_path_many : {X : Type 0} (make : Path → Path → X) (other : List (List ℕ)) → (length other ≡ 2 → ⊥) → with_two_paths make other ≡ Err WrongCount
 two_path_many make [] ne = refl
@@ -222,11 +227,11 @@ two_paths_err w v c e =
       | inr good ↦ cause_later w (v ∷ []) c (path_err v [] c (only_first (path_from v) (λ to. (good.0, to)) c good.2))
     ]
 
-two_path_tells : {X : Type 0} (N : List (List ℕ) → Type 0) (make : Path → Path → X) → FormTells N (with_two_paths make)
-two_path_tells N make [] c e = count_tells N (with_two_paths make) [] c e (two_path_some make) (λ other same. two_path_many make other (λ two. absurd (omega arith)))
-two_path_tells N make (w ∷ []) c e = count_tells N (with_two_paths make) (w ∷ []) c e (two_path_some make) (λ other same. two_path_many make other (λ two. absurd (omega arith)))
-two_path_tells N make (w ∷ v ∷ []) c e = word_tells N (with_two_paths make) (w ∷ v ∷ []) c (two_paths_err w v c (only_first (two_paths (w ∷ v ∷ [])) (λ a. make a.0 a.1) c e))
-two_path_tells N make (w ∷ v ∷ u ∷ ws) c e = count_tells N (with_two_paths make) (w ∷ v ∷ u ∷ ws) c e (two_path_some make) (λ other same. two_path_many make other (λ two. absurd (omega arith)))
+two_path_tells : {X : Type 0} (N : Cause → List (List ℕ) → Type 0) → Lifts N → (make : Path → Path → X) → FormTells N (with_two_paths make)
+two_path_tells N lift make [] c e = count_tells N (with_two_paths make) [] c e (two_path_some make) (λ other same. two_path_many make other (λ two. absurd (omega arith)))
+two_path_tells N lift make (w ∷ []) c e = count_tells N (with_two_paths make) (w ∷ []) c e (two_path_some make) (λ other same. two_path_many make other (λ two. absurd (omega arith)))
+two_path_tells N lift make (w ∷ v ∷ []) c e = word_tells N (with_two_paths make) lift (w ∷ v ∷ []) c (two_paths_err w v c (only_first (two_paths (w ∷ v ∷ [])) (λ a. make a.0 a.1) c e))
+two_path_tells N lift make (w ∷ v ∷ u ∷ ws) c e = count_tells N (with_two_paths make) (w ∷ v ∷ u ∷ ws) c e (two_path_some make) (λ other same. two_path_many make other (λ two. absurd (omega arith)))
 
 file_many : {X : Type 0} (make : Path → List ℕ → X) (other : List (List ℕ)) → (length other ≡ 1 → ⊥) → (length other ≡ 2 → ⊥) → with_file make other ≡ Err WrongCount
 file_many make [] one two = refl
@@ -247,11 +252,11 @@ one_file_err w c e = elim (file_err w [] c e) [ inl bad ↦ path_err w [] c bad 
 two_words_err : (w v : List ℕ) (c : Cause) → one_file (w ∷ v ∷ []) ≡ Err c → IsWordCause (w ∷ v ∷ []) c
 two_words_err w v c e = elim (file_err w v c e) [ inl bad ↦ path_err w (v ∷ []) c bad | inr bad ↦ cause_later w (v ∷ []) c (content_err v [] c bad) ]
 
-file_tells : {X : Type 0} (N : List (List ℕ) → Type 0) (make : Path → List ℕ → X) → FormTells N (with_file make)
-file_tells N make [] c e = count_tells N (with_file make) [] c e (file_some make) (λ other same. file_many make other (λ one. absurd (omega arith)) (λ two. absurd (omega arith)))
-file_tells N make (w ∷ []) c e = word_tells N (with_file make) (w ∷ []) c (one_file_err w c (only_first (one_file (w ∷ [])) (λ a. make a.0 a.1) c e))
-file_tells N make (w ∷ v ∷ []) c e = word_tells N (with_file make) (w ∷ v ∷ []) c (two_words_err w v c (only_first (one_file (w ∷ v ∷ [])) (λ a. make a.0 a.1) c e))
-file_tells N make (w ∷ v ∷ u ∷ ws) c e = count_tells N (with_file make) (w ∷ v ∷ u ∷ ws) c e (file_some make) (λ other same. file_many make other (λ one. absurd (omega arith)) (λ two. absurd (omega arith)))
+file_tells : {X : Type 0} (N : Cause → List (List ℕ) → Type 0) → Lifts N → (make : Path → List ℕ → X) → FormTells N (with_file make)
+file_tells N lift make [] c e = count_tells N (with_file make) [] c e (file_some make) (λ other same. file_many make other (λ one. absurd (omega arith)) (λ two. absurd (omega arith)))
+file_tells N lift make (w ∷ []) c e = word_tells N (with_file make) lift (w ∷ []) c (one_file_err w c (only_first (one_file (w ∷ [])) (λ a. make a.0 a.1) c e))
+file_tells N lift make (w ∷ v ∷ []) c e = word_tells N (with_file make) lift (w ∷ v ∷ []) c (two_words_err w v c (only_first (one_file (w ∷ v ∷ [])) (λ a. make a.0 a.1) c e))
+file_tells N lift make (w ∷ v ∷ u ∷ ws) c e = count_tells N (with_file make) (w ∷ v ∷ u ∷ ws) c e (file_some make) (λ other same. file_many make other (λ one. absurd (omega arith)) (λ two. absurd (omega arith)))
 
 -- ---- numbers and cases
 
@@ -275,7 +280,7 @@ number_many limit make [] ne = refl
 number_many limit make (w ∷ []) ne = absurd (ne refl)
 number_many limit make (w ∷ v ∷ ws) ne = refl
 
-number_tells : {X : Type 0} (N : List (List ℕ) → Type 0) (limit : ℕ) (make : ℕ → X) → 1 ≤ limit → limit ≤ 65536 → ((word : List ℕ) → IsNoNumber limit word → N (word ∷ [])) → FormTells N (with_number limit make)
+number_tells : {X : Type 0} (N : Cause → List (List ℕ) → Type 0) (limit : ℕ) (make : ℕ → X) → 1 ≤ limit → limit ≤ 65536 → ((word : List ℕ) → IsNoNumber limit word → N BadNumber (word ∷ [])) → FormTells N (with_number limit make)
 number_tells N limit make some few bad [] c e = count_tells N (with_number limit make) [] c e (number_some limit make some) (λ other same. number_many limit make other (λ one. absurd (omega arith)))
 number_tells N limit make some few bad (w ∷ []) c e =
     let o = within_err limit (number_of w) c (only_first (within limit (number_of w)) make c e) in
@@ -300,93 +305,208 @@ case_many make [] ne = refl
 case_many make (w ∷ []) ne = absurd (ne refl)
 case_many make (w ∷ v ∷ ws) ne = refl
 
-case_tells : {X : Type 0} (N : List (List ℕ) → Type 0) (make : Case → X) → ((word : List ℕ) → ((k : Case) → word ≢ case_word k) → N (word ∷ [])) → FormTells N (with_case make)
+case_tells : {X : Type 0} (N : Cause → List (List ℕ) → Type 0) (make : Case → X) → ((word : List ℕ) → ((k : Case) → word ≢ case_word k) → N BadNumber (word ∷ [])) → FormTells N (with_case make)
 case_tells N make bad [] c e = count_tells N (with_case make) [] c e (case_some make) (λ other same. case_many make other (λ one. absurd (omega arith)))
 case_tells N make bad (w ∷ []) c e =
     let o = case_err_by w c (bytes_eq w (codes "sensitive")) (bytes_eq w (codes "insensitive")) (bytes_eq-Decides w (codes "sensitive")) (bytes_eq-Decides w (codes "insensitive")) (only_first (case_from w) make c e) in
     subst (λ (d : Cause). Tells N (with_case make) (w ∷ []) d) o.0 (bad w o.1)
 case_tells N make bad (w ∷ v ∷ ws) c e = count_tells N (with_case make) (w ∷ v ∷ ws) c e (case_some make) (λ other same. case_many make other (λ one. absurd (omega arith)))
 
+-- ---- inputs
+
+-- one of the words is that of no input, or the root of an input is refused
+abbrev IsInputCause : List (List ℕ) → Cause → Type 0
+IsInputCause args (BadPath refusal) = HasOne (λ word. (text : List ℕ) × IsInputOf text word × (path_of text ≡ Err refusal)) args
+IsInputCause args BadInput = HasOne IsNoInput args
+IsInputCause args _ = ⊥
+
+input_later : (word : List ℕ) (args : List (List ℕ)) (c : Cause) → IsInputCause args c → IsInputCause (word ∷ args) c
+input_later word args (BadPath refusal) h = word_later (λ other. (text : List ℕ) × IsInputOf text other × (path_of text ≡ Err refusal)) word args h
+input_later word args BadInput h = word_later IsNoInput word args h
+input_later word args _ h = absurd h
+
+root_err : (word : List ℕ) (args : List (List ℕ)) (s : Sensitivity) (text : List ℕ) (r : Result Path PathError) (c : Cause) → word ≡ sensitivity_word s ++ text → path_of text ≡ r → or_bad_path r ≡ Err c → IsInputCause (word ∷ args) c
+root_err word args s text (Ok p) c cut is e = absurd cc
+root_err word args s text (Err refusal) c cut is e =
+    subst (λ (d : Cause). IsInputCause (word ∷ args) d) (err_is Path (BadPath refusal) c e)
+    (word_here (λ other. (t : List ℕ) × IsInputOf t other × (path_of t ≡ Err refusal)) word args (text, (s, cut), is))
+
+input_err_by : (word : List ℕ) (args : List (List ℕ)) (o : Option (Sensitivity × List ℕ)) (c : Cause) → cut_input word ≡ o → input_with o ≡ Err c → IsInputCause (word ∷ args) c
+input_err_by word args None c cut e =
+    subst (λ (d : Cause). IsInputCause (word ∷ args) d) (err_is Input BadInput c e)
+    (word_here IsNoInput word args (λ text h. let again : cut_input word ≡ Some (h.0, text) = ap cut_input h.1 ∙ cut_again h.0 text in let clash : None ≡ Some (h.0, text) = sym cut ∙ again in absurd cc))
+input_err_by word args (Some parts) c cut e =
+    root_err word args parts.0 parts.1 (path_of parts.1) c (cut_is word parts cut) refl (only_first (path_from parts.1) (λ root. record { root = root; sensitivity = parts.0 }) c e)
+
+inputs_err : (args : List (List ℕ)) (c : Cause) → all_from input_from args ≡ Err c → IsInputCause args c
+inputs_err [] c e = absurd cc
+inputs_err (word ∷ args) c e =
+    elim (bind_err (input_from word) (λ i. all_from input_from args >>= λ is. Ok (i ∷ is)) c e) [
+      | inl bad ↦ input_err_by word args (cut_input word) c refl bad
+      | inr good ↦ input_later word args c (inputs_err args c (only_first (all_from input_from args) (λ is. good.0 ∷ is) c good.2))
+    ]
+
+input_tells_by : {X : Type 0} (N : Cause → List (List ℕ) → Type 0) (form : Form X) → ((args : List (List ℕ)) (c : Cause) → IsInputCause args c → N c args) → (args : List (List ℕ)) (c : Cause) → IsInputCause args c → Tells N form args c
+input_tells_by N form lift args (BadPath refusal) h = lift args (BadPath refusal) h
+input_tells_by N form lift args BadInput h = lift args BadInput h
+input_tells_by N form lift args _ h = absurd h
+
+inputs_some : {X : Type 0} (make : List Input → X) → IsSome (with_inputs make)
+inputs_some make = let i : Input = record { root = []; sensitivity = Absolute } in (input_word i ∷ [], make (i ∷ []), rw (input_again i (search rules)) refl)
+
+inputs_many : {X : Type 0} (make : List Input → X) (args other : List (List ℕ)) → (leb 1 (length args) && leb (length args) 64) ≡ false → length other ≡ length args → with_inputs make other ≡ Err WrongCount
+inputs_many make args other out same = rw (same, out) refl
+
+input_tells : {X : Type 0} (N : Cause → List (List ℕ) → Type 0) → ((args : List (List ℕ)) (c : Cause) → IsInputCause args c → N c args) → (make : List Input → X) → FormTells N (with_inputs make)
+input_tells {X} N lift make args c e = by (leb 1 (length args) && leb (length args) 64) refl (only_first (some_inputs args) make c e)
+  where
+    by : (b : Bool) → (leb 1 (length args) && leb (length args) 64) ≡ b → cond b (all_from input_from args) (Err WrongCount) ≡ Err c → Tells N (with_inputs make) args c
+    by true in_limits h = input_tells_by N (with_inputs make) lift args c (inputs_err args c h)
+    by false out h = subst (λ (d : Cause). Tells N (with_inputs make) args d) (err_is (List Input) WrongCount c h) ((λ other same. inputs_many make args other out same), inputs_some make)
+
 -- ---- tables
 
-unknown_tells : (X : Type 0) (N : List (List ℕ) → Type 0) → FormTells N (unknown {X = X})
+unknown_tells : (X : Type 0) (N : Cause → List (List ℕ) → Type 0) → FormTells N (unknown {X = X})
 unknown_tells X N args c e = subst (λ (d : Cause). Tells N (unknown {X = X}) args d) (err_is X UnknownWord c e) (λ other. refl)
 
-one_of_tells : {X : Type 0} (N : List (List ℕ) → Type 0) (word name : List ℕ) (b : Bool) (here later : Form X) → Decides b (word ≡ name) → (word ≡ name → FormTells N here) → FormTells N later → FormTells N (λ args. cond b (here args) (later args))
+one_of_tells : {X : Type 0} (N : Cause → List (List ℕ) → Type 0) (word name : List ℕ) (b : Bool) (here later : Form X) → Decides b (word ≡ name) → (word ≡ name → FormTells N here) → FormTells N later → FormTells N (λ args. cond b (here args) (later args))
 one_of_tells N word name true here later d h l args c e = h (d.0 refl) args c e
 one_of_tells N word name false here later d h l args c e = l args c e
 
 -- what a row's form tells where the word is its name
-RowTells : {X : Type 0} → (List (List ℕ) → Type 0) → List ℕ → List ℕ × Form X → Type 0
+RowTells : {X : Type 0} → (Cause → List (List ℕ) → Type 0) → List ℕ → List ℕ × Form X → Type 0
 RowTells N word row = word ≡ row.0 → FormTells N row.1
 
-table_tells : {X : Type 0} (N : List (List ℕ) → Type 0) (rows : List (List ℕ × Form X)) (other : Form X) (word : List ℕ) → AllByRecursion (RowTells N word) rows → FormTells N other → FormTells N (form_named rows other word)
+table_tells : {X : Type 0} (N : Cause → List (List ℕ) → Type 0) (rows : List (List ℕ × Form X)) (other : Form X) (word : List ℕ) → AllByRecursion (RowTells N word) rows → FormTells N other → FormTells N (form_named rows other word)
 unfolding RowTells
 table_tells N [] other word each last = last
 table_tells N (r ∷ rows) other word each last = one_of_tells N word r.0 (bytes_eq word r.0) r.1 (form_named rows other word) (bytes_eq-Decides word r.0) each.0 (table_tells N rows other word each.1 last)
 
-opening_tells : (word : List ℕ) → FormTells (λ args. HasBadNumber (word ∷ args)) (opening_of word)
+-- behind a name that takes no inputs, a word that is refused as a path has that path in it
+plain_lift : {X : Type 0} (IsForm : X → List (List ℕ) → Type 0) (word name : List ℕ) → word ≡ name → takes_inputs name ≡ false → Lifts (λ c args. HoldsOfWords IsForm (word ∷ args) c)
+unfolding Lifts
+plain_lift IsForm word name is apart args (BadPath refusal) h = (h.0, h.1, h.2, h.3, (h.1, rw (is, apart) refl, h.4))
+plain_lift IsForm word name is apart args TooLarge h = h
+plain_lift IsForm word name is apart args _ h = absurd h
+
+-- behind a name that takes inputs, causes of inputs are told
+input_lift : {X : Type 0} (IsForm : X → List (List ℕ) → Type 0) (word name : List ℕ) → word ≡ name → takes_inputs name ≡ true → (args : List (List ℕ)) (c : Cause) → IsInputCause args c → HoldsOfWords IsForm (word ∷ args) c
+input_lift IsForm word name is taken args (BadPath refusal) h = (h.0, h.1, h.2, h.3, (h.4.0, rw (is, taken) h.4.1, h.4.2))
+input_lift IsForm word name is taken args BadInput h = (rw is taken, h)
+input_lift IsForm word name is taken args _ h = absurd h
+
+-- what a cause that lies with a word says after `set`: a number is bad, or it holds in the words of the grammar
+SettingTells : List ℕ → Cause → List (List ℕ) → Type 0
+SettingTells word c args = ((BadNumber ≡ c) × HasBadNumber (word ∷ args)) ⊎ HoldsOfWords IsOpening (word ∷ args) c
+
+-- and after a caller
+CommandTells : List ℕ → Cause → List (List ℕ) → Type 0
+CommandTells word c args = HoldsOfWords IsCommand (word ∷ args) c
+
+setting_lift : (word name : List ℕ) → word ≡ name → takes_inputs name ≡ false → Lifts (SettingTells word)
+unfolding Lifts SettingTells
+setting_lift word name is apart args c h = inr (plain_lift IsOpening word name is apart args c h)
+
+command_lift : (word name : List ℕ) → word ≡ name → takes_inputs name ≡ false → Lifts (CommandTells word)
+unfolding Lifts CommandTells
+command_lift word name is apart args c h = plain_lift IsCommand word name is apart args c h
+
+command_input_lift : (word name : List ℕ) → word ≡ name → takes_inputs name ≡ true → (args : List (List ℕ)) (c : Cause) → IsInputCause args c → CommandTells word c args
+unfolding CommandTells
+command_input_lift word name is taken args c h = input_lift IsCommand word name is taken args c h
+
+bad_number : (word : List ℕ) (args : List (List ℕ)) → HasBadNumber (word ∷ args) → SettingTells word BadNumber args
+unfolding SettingTells
+bad_number word args h = inl (refl, h)
+
+opening_tells : (word : List ℕ) → FormTells (SettingTells word) (opening_of word)
 unfolding RowTells opening_of
 opening_tells word =
-    let N = λ (args : List (List ℕ)). HasBadNumber (word ∷ args) in
+    let N = SettingTells word in
     table_tells N opening_forms unknown word (
-      (λ is. case_tells N openings.Case (λ v no. rw is (case v no))),
+      (λ is. case_tells N openings.Case (λ v no. bad_number word (v ∷ []) (rw is (case v no)))),
       (
-        (λ is. number_tells N 65536 openings.Queue (lit≤ tt) (lit≤ tt) (λ v no. rw is (queue v no))),
+        (λ is. number_tells N 65536 openings.Queue (lit≤ tt) (lit≤ tt) (λ v no. bad_number word (v ∷ []) (rw is (queue v no)))),
         (
-          (λ is. number_tells N 65536 openings.Places (lit≤ tt) (lit≤ tt) (λ v no. rw is (places v no))),
-          ((λ is. number_tells N 16 openings.Workers (lit≤ tt) (lit≤ tt) (λ v no. rw is (workers v no))), ((λ is. path_tells N _), ((λ is. file_tells N _), tt))),
+          (λ is. number_tells N 65536 openings.Places (lit≤ tt) (lit≤ tt) (λ v no. bad_number word (v ∷ []) (rw is (places v no)))),
+          (
+            (λ is. number_tells N 16 openings.Workers (lit≤ tt) (lit≤ tt) (λ v no. bad_number word (v ∷ []) (rw is (workers v no)))),
+            ((λ is. path_tells N (setting_lift word (codes "dir") is refl) _), ((λ is. file_tells N (setting_lift word (codes "file") is refl) _), tt)),
+          ),
         ),
       ),
     )
     (unknown_tells _ N)
 
--- no command has a number
-abbrev no_number : List (List ℕ) → Type 0
-no_number args = ⊥
-
-plain_tells : (word : List ℕ) → FormTells no_number (plain_command_of word)
+plain_tells : (word : List ℕ) → FormTells (CommandTells word) (plain_command_of word)
 unfolding RowTells plain_command_of
 plain_tells word =
-    table_tells no_number plain_forms unknown word (
-      (λ is. alone_tells no_number _),
-      ((λ is. alone_tells no_number _), ((λ is. alone_tells no_number _), ((λ is. alone_tells no_number _), ((λ is. alone_tells no_number _), ((λ is. alone_tells no_number _), tt))))),
+    let N = CommandTells word in
+    table_tells N plain_forms unknown word (
+      (λ is. alone_tells N _),
+      ((λ is. alone_tells N _), ((λ is. alone_tells N _), ((λ is. alone_tells N _), ((λ is. alone_tells N _), ((λ is. alone_tells N _), tt))))),
     )
-    (unknown_tells _ no_number)
+    (unknown_tells _ N)
 
-path_command_tells : (word : List ℕ) → FormTells no_number (path_command_of word)
-unfolding RowTells path_command_of
-path_command_tells word =
-    table_tells no_number path_forms (plain_command_of word) word (
-      (λ is. path_tells no_number _),
-      ((λ is. path_tells no_number _), ((λ is. path_tells no_number _), ((λ is. path_tells no_number _), ((λ is. path_tells no_number _), ((λ is. path_tells no_number _), tt))))),
+input_command_tells : (word : List ℕ) → FormTells (CommandTells word) (input_command_of word)
+unfolding RowTells input_command_of
+input_command_tells word =
+    let N = CommandTells word in
+    table_tells N input_forms (plain_command_of word) word (
+      (λ is. input_tells N (command_input_lift word (codes "print") is refl) _),
+      ((λ is. input_tells N (command_input_lift word (codes "build") is refl) _), tt),
     )
     (plain_tells word)
 
-command_tells : (word : List ℕ) → FormTells no_number (command_of word)
+path_command_tells : (word : List ℕ) → FormTells (CommandTells word) (path_command_of word)
+unfolding RowTells path_command_of
+path_command_tells word =
+    let N = CommandTells word in
+    table_tells N path_forms (input_command_of word) word (
+      (λ is. path_tells N (command_lift word (codes "event") is refl) _),
+      (
+        (λ is. path_tells N (command_lift word (codes "begin") is refl) _),
+        (
+          (λ is. path_tells N (command_lift word (codes "scan") is refl) _),
+          (
+            (λ is. path_tells N (command_lift word (codes "find") is refl) _),
+            ((λ is. path_tells N (command_lift word (codes "kind") is refl) _), ((λ is. path_tells N (command_lift word (codes "version") is refl) _), tt)),
+          ),
+        ),
+      ),
+    )
+    (input_command_tells word)
+
+command_tells : (word : List ℕ) → FormTells (CommandTells word) (command_of word)
 unfolding RowTells command_of
 command_tells word =
-    table_tells no_number edit_forms (path_command_of word) word ((λ is. file_tells no_number _), ((λ is. path_tells no_number _), ((λ is. path_tells no_number _), ((λ is. two_path_tells no_number _), tt)))) (path_command_tells word)
+    let N = CommandTells word in
+    table_tells N edit_forms (path_command_of word) word (
+      (λ is. file_tells N (command_lift word (codes "write") is refl) _),
+      (
+        (λ is. path_tells N (command_lift word (codes "mkdir") is refl) _),
+        ((λ is. path_tells N (command_lift word (codes "remove") is refl) _), ((λ is. two_path_tells N (command_lift word (codes "move") is refl) _), tt)),
+      ),
+    )
+    (path_command_tells word)
 
--- what a form tells is a bad number, or holds in the words of the grammar, where each of its words is read
-TellsTrue : {X : Type 0} → (X → List (List ℕ) → Type 0) → (List (List ℕ) → Type 0) → List ℕ → List (List ℕ) → Cause → Type 0
-TellsTrue IsForm N word args c = ((BadNumber ≡ c) × N args) ⊎ HoldsOfWords IsForm (word ∷ args) c
+-- what a form tells holds in the words of the grammar, or is what N says, where each of its words is read
+TellsTrue : {X : Type 0} → (X → List (List ℕ) → Type 0) → (Cause → List (List ℕ) → Type 0) → List ℕ → List (List ℕ) → Cause → Type 0
+TellsTrue IsForm N word args c = N c args ⊎ HoldsOfWords IsForm (word ∷ args) c
 
-tells_holds : {X : Type 0} (N : List (List ℕ) → Type 0) (IsForm : X → List (List ℕ) → Type 0) (form : Form X) (word : List ℕ) → ((x : X) (args : List (List ℕ)) → IsForm x (word ∷ args) → form args ≡ Ok x) → ((x : X) (args : List (List ℕ)) → form args ≡ Ok x → IsForm x (word ∷ args))
+tells_holds : {X : Type 0} (N : Cause → List (List ℕ) → Type 0) (IsForm : X → List (List ℕ) → Type 0) (form : Form X) (word : List ℕ) → ((x : X) (args : List (List ℕ)) → IsForm x (word ∷ args) → form args ≡ Ok x) → ((x : X) (args : List (List ℕ)) → form args ≡ Ok x → IsForm x (word ∷ args))
     → (args : List (List ℕ)) (c : Cause) → Tells N form args c → TellsTrue IsForm N word args c
 unfolding TellsTrue
 tells_holds N IsForm form word again is args UnknownWord t = inr (λ x other h. let e = again x other h in let f = t other in absurd cc)
 tells_holds N IsForm form word again is args WrongCount t = inr (λ x other h same. let e = again x other h in let f = t.0 other same in absurd cc, λ no. no t.1.1 t.1.0 (is t.1.1 t.1.0 t.1.2))
-tells_holds N IsForm form word again is args BadNumber t = inl (refl, t)
-tells_holds N IsForm form word again is args (BadPath refusal) t = inr t
-tells_holds N IsForm form word again is args TooLarge t = inr t
-tells_holds N IsForm form word again is args _ t = absurd t
+tells_holds N IsForm form word again is args c t = inl t
 
 -- ---- lines
 
-setting_holds_by : (s : Script) (text word : List ℕ) (args : List (List ℕ)) (c : Cause) → words_of text ≡ Ok (codes "set" ∷ word ∷ args) → s.lines ≡ [] → TellsTrue IsOpening (λ more. HasBadNumber (word ∷ more)) word args c → Holds s text c
-unfolding TellsTrue
-setting_holds_by s text word args c w bare (inl bad) = subst (λ (d : Cause). Holds s text d) bad.0 (number (word ∷ args) w bare bad.1)
+setting_holds_by : (s : Script) (text word : List ℕ) (args : List (List ℕ)) (c : Cause) → words_of text ≡ Ok (codes "set" ∷ word ∷ args) → s.lines ≡ [] → TellsTrue IsOpening (SettingTells word) word args c → Holds s text c
+unfolding TellsTrue SettingTells
+setting_holds_by s text word args c w bare (inl (inl bad)) = subst (λ (d : Cause). Holds s text d) bad.0 (number (word ∷ args) w bare bad.1)
+setting_holds_by s text word args c w bare (inl (inr h)) = setting (word ∷ args) c w bare h
 setting_holds_by s text word args c w bare (inr h) = setting (word ∷ args) c w bare h
 
 repeated_holds : (s : Script) (text : List ℕ) (more : List (List ℕ)) (o : Opening) (c : Cause) (b : Bool) → words_of text ≡ Ok (codes "set" ∷ more) → s.lines ≡ [] → IsOpening o more → list_any (is_same_setting o) s.opening ≡ b
@@ -399,21 +519,21 @@ setting_holds s text [] c w bare e = setting [] c w bare (sym (err_is Script Wro
 setting_holds s text (word ∷ args) c w bare e =
     elim (bind_err (opening_of word args) (λ o. cond (list_any (is_same_setting o) s.opening) (Err Repeated) (Ok (with_opening s o))) c e) [
       | inl bad ↦ setting_holds_by s text word args c w bare (
-          tells_holds (λ other. HasBadNumber (word ∷ other)) IsOpening (opening_of word) word (λ o other h. opening_again o word other h) (λ o other h. opening_is word other o h) args c (opening_tells word args c bad)
+          tells_holds (SettingTells word) IsOpening (opening_of word) word (λ o other h. opening_again o word other h) (λ o other h. opening_is word other o h) args c (opening_tells word args c bad)
           )
       | inr good ↦ repeated_holds s text (word ∷ args) good.0 c (list_any (is_same_setting good.0) s.opening) w bare (opening_is word args good.0 good.1) refl good.2
     ]
 
-command_holds_by : (word : List ℕ) (args : List (List ℕ)) (c : Cause) → TellsTrue IsCommand no_number word args c → HoldsOfWords IsCommand (word ∷ args) c
-unfolding TellsTrue
-command_holds_by word args c (inl bad) = absurd bad.1
+command_holds_by : (word : List ℕ) (args : List (List ℕ)) (c : Cause) → TellsTrue IsCommand (CommandTells word) word args c → HoldsOfWords IsCommand (word ∷ args) c
+unfolding TellsTrue CommandTells
+command_holds_by word args c (inl h) = h
 command_holds_by word args c (inr h) = h
 
 command_holds : (kind : TextKind) (s : Script) (n : ℕ) (more : List (List ℕ)) (c : Cause) → with_command kind s n more ≡ Err c → HoldsOfWords IsCommand more c
 command_holds kind s n [] c e = sym (err_is Script WrongCount c e)
 command_holds Replay s n (word ∷ args) c e =
     command_holds_by word args c (
-    tells_holds no_number IsCommand (command_of word) word (λ x other h. command_again x word other h) (λ x other h. command_is word other x h) args c
+    tells_holds (CommandTells word) IsCommand (command_of word) word (λ x other h. command_again x word other h) (λ x other h. command_is word other x h) args c
     (command_tells word args c (only_first (command_of word args) (λ x. with_line s (record { caller = n; command = x })) c e))
     )
 

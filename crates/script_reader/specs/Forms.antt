@@ -1,11 +1,14 @@
 -- The forms of lines: how the words after a caller, or after `set`, are read.
-use Rattle.std.specs.Prelude.{ℕ, List, [], ◌∷◌, Option, Some, None, Result, Ok, Err, length, nat_lt, nat_le, ◌&&◌, if◌then◌else◌, codes}
+use Rattle.std.specs.Prelude.{ℕ, List, [], ◌∷◌, Option, Some, None, Result, Ok, Err, length, take, drop, nat_lt, nat_le, ◌&&◌, if◌then◌else◌, codes}
 use Rattle.std.specs.Str.{bytes_eq}
 use Rattle.vfs_model.specs.declared.Case.{Case}
 use Rattle.vfs_model.specs.declared.Case.TheVariants.{Sensitive, Insensitive}
 use Rattle.vfs_model.specs.Paths.{Path}
 use Rattle.vfs_path.specs.declared.error.PathError.{PathError}
 use Rattle.vfs_path.specs.Texts.{path_of}
+use Rattle.fingerprint_norms.specs.declared.input.Input.{Input}
+use Rattle.fingerprint_norms.specs.declared.input.Sensitivity.{Sensitivity}
+use Rattle.fingerprint_norms.specs.declared.input.Sensitivity.TheVariants.{Absolute, Relative, NameOnly, Ignored}
 use Rattle.world_model.specs.declared.edit.Edit.TheVariants as edits
 use Rattle.script_text.specs.declared.cause.Cause.{Cause}
 use Rattle.script_text.specs.declared.cause.Cause.TheVariants as causes
@@ -13,7 +16,7 @@ use Rattle.script_text.specs.declared.script.Opening.{Opening}
 use Rattle.script_text.specs.declared.script.Opening.TheVariants as openings
 use Rattle.script_text.specs.declared.script.Command.{Command}
 use Rattle.script_text.specs.declared.script.Command.TheVariants as commands
-use Rattle.script_text.specs.Steps.{◌>>=◌}
+use Rattle.script_text.specs.Steps.{◌>>=◌, all_from}
 use Rattle.script_reader.specs.Numbers.{number_of}
 
 -- ---- words that stand for values
@@ -43,6 +46,32 @@ within limit (Some n) = if nat_le 1 n && nat_le n limit then Ok n else Err cause
 -- the case that the word names
 abbrev pub case_from : List ℕ → Result Case Cause
 case_from word = if bytes_eq word (codes "sensitive") then Ok Sensitive else if bytes_eq word (codes "insensitive") then Ok Insensitive else Err causes.BadNumber
+
+-- what follows the front of a word, where the word begins with it
+abbrev pub behind : List ℕ → List ℕ → Option (List ℕ)
+behind front word = if bytes_eq (take (length front) word) front then Some (drop (length front) word) else None
+
+-- the sensitivity with the text that follows its word, where one does, and else another
+abbrev pub cut_or : Sensitivity → Option (List ℕ) → Option (Sensitivity × List ℕ) → Option (Sensitivity × List ℕ)
+cut_or sensitivity None other = other
+cut_or sensitivity (Some text) other = Some (sensitivity, text)
+
+-- the sensitivity of an input and the text of its root, by what the word begins with
+abbrev pub cut_input : List ℕ → Option (Sensitivity × List ℕ)
+cut_input word =
+    cut_or Absolute (behind (codes "abs:") word)
+    (cut_or Relative (behind (codes "rel:") word)
+    (cut_or NameOnly (behind (codes "name:") word)
+    (cut_or Ignored (behind (codes "none:") word) None)))
+
+-- the input with these parts
+abbrev pub input_with : Option (Sensitivity × List ℕ) → Result Input Cause
+input_with None = Err causes.BadInput
+input_with (Some parts) = path_from parts.1 >>= λ root. Ok (record { root = root; sensitivity = parts.0 })
+
+-- the input with this text
+abbrev pub input_from : List ℕ → Result Input Cause
+input_from word = input_with (cut_input word)
 
 -- ---- what may stand after the second word
 
@@ -77,6 +106,10 @@ abbrev pub one_case : List (List ℕ) → Result Case Cause
 one_case (word ∷ []) = case_from word
 one_case _ = Err causes.WrongCount
 
+-- 1 to 64 inputs, the left one first
+abbrev pub some_inputs : List (List ℕ) → Result (List Input) Cause
+some_inputs args = if nat_le 1 (length args) && nat_le (length args) 64 then all_from input_from args else Err causes.WrongCount
+
 -- ---- forms, by the second word
 
 -- how the words after the second are read
@@ -106,6 +139,10 @@ with_number limit make args = one_number limit args >>= λ n. Ok (make n)
 -- the word and a case
 abbrev pub with_case : {X : Type 0} → (Case → X) → Form X
 with_case make args = one_case args >>= λ case. Ok (make case)
+
+-- the word and 1 to 64 inputs
+abbrev pub with_inputs : {X : Type 0} → (List Input → X) → Form X
+with_inputs make args = some_inputs args >>= λ inputs. Ok (make inputs)
 
 -- the form with this name, or another where none of the rows has it
 abbrev pub form_named : {X : Type 0} → List (List ℕ × Form X) → Form X → List ℕ → Form X
@@ -160,6 +197,13 @@ path_forms =
     ∷ (codes "version", with_path commands.VersionOf)
     ∷ []
 
+-- the commands on inputs
+abbrev pub input_forms : List (List ℕ × Form Command)
+input_forms =
+    (codes "print", with_inputs commands.Print)
+    ∷ (codes "build", with_inputs commands.Build)
+    ∷ []
+
 -- the opening line of a word after `set` and the words after it
 unfoldable pub opening_of : List ℕ → List (List ℕ) → Result Opening Cause
 opening_of word args = form_named opening_forms unknown word args
@@ -168,9 +212,13 @@ opening_of word args = form_named opening_forms unknown word args
 unfoldable pub plain_command_of : List ℕ → List (List ℕ) → Result Command Cause
 plain_command_of word args = form_named plain_forms unknown word args
 
--- where it is a word alone, or on a path and no edit
+-- where it is a word alone, or on inputs
+unfoldable pub input_command_of : List ℕ → List (List ℕ) → Result Command Cause
+input_command_of word args = form_named input_forms (plain_command_of word) word args
+
+-- where it is one of these, or on a path and no edit
 unfoldable pub path_command_of : List ℕ → List (List ℕ) → Result Command Cause
-path_command_of word args = form_named path_forms (plain_command_of word) word args
+path_command_of word args = form_named path_forms (input_command_of word) word args
 
 -- the command of a second word and the words after it, whatever it is
 unfoldable pub command_of : List ℕ → List (List ℕ) → Result Command Cause

@@ -1,14 +1,17 @@
 //! The forms of lines.
 
 ghost use Rattle.std.specs.Prelude.{◌≡◌};
+ghost use Rattle.std.specs.Option.{option_copied, option_map};
 ghost use Rattle.script_reader.specs.Numbers.{number_of};
 ghost use Rattle.script_reader.specs.Gives.{Gives};
-ghost use Rattle.script_reader.specs.Forms.{path_from, content_from, file_from, within, case_from, no_more, one_path, two_paths, one_file, one_number, one_case, opening_of, plain_command_of, path_command_of, command_of};
+ghost use Rattle.script_reader.specs.Forms.{path_from, content_from, file_from, within, case_from, no_more, one_path, two_paths, one_file, one_number, one_case, opening_of, behind, cut_input, input_from, some_inputs, plain_command_of, input_command_of, path_command_of, command_of};
+ghost use Rattle.script_text.specs.Steps.{all_from};
 
 use crate::error::LineError;
 use crate::numbers::number_of;
 use crate::words::Word;
 use case_order::Case;
+use fingerprint_norms::{Input, Inputs, Sensitivity};
 use merkle_hash::Bytes;
 use script_text::{Cause, Command, Opening};
 use std::alloc::Global;
@@ -65,6 +68,50 @@ fn case_from(word: &[u8]) -> Result<Case, LineError>
         return Ok(Case::Insensitive);
     }
     Err(LineError::Bad(Cause::BadNumber))
+}
+
+/// What follows the front of a word, where the word begins with it.
+fn behind<'a>(front: &[u8], word: &'a [u8]) -> Option<&'a [u8]>
+    ensures { option_copied result ≡ behind front.now word.now }
+{
+    word.strip_prefix(front)
+}
+
+/// How much of the paths an input takes, and the text of its root.
+fn cut_input(word: &[u8]) -> Option<(Sensitivity, &[u8])>
+    ensures { option_map (λ parts. (parts.0, parts.1.now)) result ≡ cut_input word.now }
+{
+    if let Some(text) = behind(b"abs:", word) {
+        return Some((Sensitivity::Absolute, text));
+    }
+    if let Some(text) = behind(b"rel:", word) {
+        return Some((Sensitivity::Relative, text));
+    }
+    if let Some(text) = behind(b"name:", word) {
+        return Some((Sensitivity::NameOnly, text));
+    }
+    let text = behind(b"none:", word)?;
+    Some((Sensitivity::Ignored, text))
+}
+
+fn input_from(alloc: Global, word: &[u8]) -> Result<Input, LineError>
+    ensures { Gives result (input_from word.now) }
+{
+    let Some((sensitivity, text)) = cut_input(word) else {
+        return Err(LineError::Bad(Cause::BadInput));
+    };
+    let root = path_from(alloc, text)?;
+    Ok(Input { root, sensitivity })
+}
+
+fn inputs_from(alloc: Global, args: &[Word]) -> Result<Inputs, LineError>
+    ensures { Gives result (all_from input_from args.now) }
+{
+    let mut inputs = Vec::new(alloc);
+    for word in args {
+        inputs.push(input_from(alloc, word.as_slice())?)?;
+    }
+    Ok(Inputs::from_vec(inputs))
 }
 
 fn no_more(args: &[Word]) -> Result<(), LineError>
@@ -129,6 +176,16 @@ fn one_case(args: &[Word]) -> Result<Case, LineError>
     }
 }
 
+/// 1 to 64 inputs.
+fn some_inputs(alloc: Global, args: &[Word]) -> Result<Inputs, LineError>
+    ensures { Gives result (some_inputs args.now) }
+{
+    if args.is_empty() || args.len() > 64 {
+        return Err(LineError::Bad(Cause::WrongCount));
+    }
+    inputs_from(alloc, args)
+}
+
 /// The opening line of a word after `set` and the words after it.
 #[tactic(auto, unfolding(crate::specs::Forms::opening_of))]
 pub(crate) fn opening_of(alloc: Global, word: &[u8], args: &[Word]) -> Result<Opening, LineError>
@@ -178,7 +235,7 @@ pub(crate) fn command_of(alloc: Global, word: &[u8], args: &[Word]) -> Result<Co
     path_command_of(alloc, word, args)
 }
 
-/// The command where it is no edit: one on a path, or a word alone.
+/// The command where it is no edit: one on a path, on inputs, or a word alone.
 #[tactic(auto, unfolding(crate::specs::Forms::path_command_of))]
 fn path_command_of(alloc: Global, word: &[u8], args: &[Word]) -> Result<Command, LineError>
     ensures { Gives result (path_command_of word.now args.now) }
@@ -200,6 +257,20 @@ fn path_command_of(alloc: Global, word: &[u8], args: &[Word]) -> Result<Command,
     }
     if word == b"version".as_slice() {
         return Ok(Command::VersionOf(one_path(alloc, args)?));
+    }
+    input_command_of(alloc, word, args)
+}
+
+/// The command where it is one on inputs, or a word alone.
+#[tactic(auto, unfolding(crate::specs::Forms::input_command_of))]
+fn input_command_of(alloc: Global, word: &[u8], args: &[Word]) -> Result<Command, LineError>
+    ensures { Gives result (input_command_of word.now args.now) }
+{
+    if word == b"print".as_slice() {
+        return Ok(Command::Print(some_inputs(alloc, args)?));
+    }
+    if word == b"build".as_slice() {
+        return Ok(Command::Build(some_inputs(alloc, args)?));
     }
     plain_command_of(word, args)
 }

@@ -2,6 +2,7 @@ ghost use Rattle.std.specs.Prelude.{◌≡◌, IfOk};
 
 use super::*;
 use case_order::{Case, NoMemory, Share};
+use fingerprint_norms::{Input, Inputs, Sensitivity};
 use std::alloc::{AllocError, Global};
 use std::process::Abort;
 use std::test::Fail;
@@ -45,6 +46,32 @@ fn is_command(alloc: Global, command: &Command, name: &str, word: &str, second: 
         Command::Find(path) => name == "find" && is_path(alloc, path, word),
         Command::KindOf(path) => name == "kind" && is_path(alloc, path, word),
         Command::VersionOf(path) => name == "version" && is_path(alloc, path, word),
+        Command::Print(inputs) => name == "print" && are_inputs(alloc, inputs, word, second),
+        Command::Build(inputs) => name == "build" && are_inputs(alloc, inputs, word, second),
+    }
+}
+
+/// Whether it is the input with this text.
+fn is_input(alloc: Global, input: &Input, text: &str) -> bool {
+    let (sensitivity, root) = match text.as_bytes() {
+        [b'a', b'b', b's', b':', root @ ..] => (Sensitivity::Absolute, root),
+        [b'r', b'e', b'l', b':', root @ ..] => (Sensitivity::Relative, root),
+        [b'n', b'a', b'm', b'e', b':', root @ ..] => (Sensitivity::NameOnly, root),
+        [b'n', b'o', b'n', b'e', b':', root @ ..] => (Sensitivity::Ignored, root),
+        _ => return false,
+    };
+    match Path::parse(alloc, root) {
+        Ok(root) => input.root == root && input.sensitivity == sensitivity,
+        Err(_) => false,
+    }
+}
+
+/// Whether these are the inputs with these texts; with no second text it is one.
+fn are_inputs(alloc: Global, inputs: &Inputs, word: &str, second: &str) -> bool {
+    match inputs.as_slice() {
+        [input] => second.is_empty() && is_input(alloc, input, word),
+        [input, other] => is_input(alloc, input, word) && is_input(alloc, other, second),
+        _ => false,
     }
 }
 
@@ -85,6 +112,10 @@ fn reads_each_command(rt: HostRuntime) {
         ("11 find /a\n", 11, "find", "/a", ""),
         ("12 kind /a\n", 12, "kind", "/a", ""),
         ("13 version /a\n", 13, "version", "/a", ""),
+        ("0 print abs:/a\n", 0, "print", "abs:/a", ""),
+        ("1 print name:/ rel:/a\n", 1, "print", "name:/", "rel:/a"),
+        ("2 build n%6fne:/a%20b\n", 2, "build", "none:/a b", ""),
+        ("3 build rel:/a rel:/a\n", 3, "build", "rel:/a", "rel:/a"),
     ];
     for (text, caller, name, word, second) in table {
         assert!(rt;
@@ -226,8 +257,7 @@ fn tells_each_cause(rt: HostRuntime) -> Result<(), Fail> {
         (" \n", Cause::EmptyWord),
         ("0 fnd /a\n", Cause::UnknownWord),
         ("0 read\r\n", Cause::UnknownWord),
-        ("0 print rel:/a\n", Cause::UnknownWord),
-        ("0 build rel:/a\n", Cause::UnknownWord),
+        ("0 prints rel:/a\n", Cause::UnknownWord),
         ("set watch /a\n", Cause::UnknownWord),
         ("set read\n", Cause::UnknownWord),
         ("0 dir /a\n", Cause::UnknownWord),
@@ -261,6 +291,13 @@ fn tells_each_cause(rt: HostRuntime) -> Result<(), Fail> {
         ("0 move /a /b /c\n", Cause::WrongCount),
         ("0 deliver /a\n", Cause::WrongCount),
         ("0 begin\n", Cause::WrongCount),
+        ("0 print\n", Cause::WrongCount),
+        ("0 build\n", Cause::WrongCount),
+        ("0 print /a\n", Cause::BadInput),
+        ("0 build rel/a\n", Cause::BadInput),
+        ("0 print Rel:/a\n", Cause::BadInput),
+        ("0 print abs:/a ignore:/a\n", Cause::BadInput),
+        ("0 build none\n", Cause::BadInput),
     ];
     for (text, cause) in table {
         let bad = first_bad(alloc, text.as_bytes())?;
@@ -283,6 +320,9 @@ fn tells_what_is_wrong_with_a_path(rt: HostRuntime) -> Result<(), Fail> {
         ("0 move /a b\n", PathError::NotAbsolute),
         ("0 move a /%00\n", PathError::NotAbsolute),
         ("0 move /%00 a\n", PathError::BadByte),
+        ("0 print rel:\n", PathError::NotAbsolute),
+        ("0 build abs:/a rel:/a//b none\n", PathError::EmptyName),
+        ("0 print name:abs:/a x\n", PathError::NotAbsolute),
     ];
     for (text, refusal) in table {
         let wanted = Some((1, Cause::BadPath(refusal)));
@@ -411,6 +451,9 @@ fn keeps_to_the_limits(rt: HostRuntime) -> Result<(), Fail> {
         ("set file /a ", "x", 1_048_577, too_large),
         ("3 write /a ", "%0a", 1_048_577, too_large),
         ("0 write a ", "x", 1_048_577, not_absolute),
+        ("0 print rel:/0", " rel:/x", 63, None),
+        ("0 print rel:/0", " rel:/x", 64, Some(Cause::WrongCount)),
+        ("0 build x", " abs:/x", 64, Some(Cause::WrongCount)),
     ];
     for (front, piece, count, wanted) in table {
         assert_eq!(rt;
@@ -474,7 +517,9 @@ fn writes_what_it_read(rt: HostRuntime) {
         12 scan /a\n\
         13 find /a\n\
         14 kind /a\n\
-        15 version /a\n";
+        15 version /a\n\
+        0 print rel:/a\n\
+        1 build abs:/ name:/a%20b rel:/ none:/rel:/x\n";
     let table = [
         ("", ""),
         (openings, openings),

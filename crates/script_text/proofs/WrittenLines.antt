@@ -15,15 +15,18 @@ use Rattle.vfs_model.specs.declared.Case.{Case as NameCase}
 use Rattle.vfs_model.specs.declared.Case.TheVariants.{Sensitive, Insensitive}
 use Rattle.world_model.specs.declared.edit.Edit.{Edit as EditValue}
 use Rattle.world_model.specs.declared.edit.Edit.TheVariants.{Write, Mkdir, Remove, Move}
+use Rattle.fingerprint_norms.specs.declared.input.Input.{Input}
+use Rattle.fingerprint_norms.specs.declared.input.Sensitivity.{Sensitivity}
+use Rattle.fingerprint_norms.specs.declared.input.Sensitivity.TheVariants.{Absolute, Relative, NameOnly, Ignored}
 use Rattle.script_text.specs.declared.script.TextKind.{TextKind}
 use Rattle.script_text.specs.declared.script.Opening.{Opening}
 use Rattle.script_text.specs.declared.script.Opening.TheVariants.{Case, Queue, Places, Workers, Dir, File}
 use Rattle.script_text.specs.declared.script.Command.{Command}
-use Rattle.script_text.specs.declared.script.Command.TheVariants.{Edit, Event, Lose, Deliver, Settle, Begin, Read, Publish, Abandon, Scan, Find, KindOf, VersionOf}
+use Rattle.script_text.specs.declared.script.Command.TheVariants.{Edit, Event, Lose, Deliver, Settle, Begin, Read, Publish, Abandon, Scan, Find, KindOf, VersionOf, Print, Build}
 use Rattle.script_text.specs.declared.script.Line.{Line}
 use Rattle.script_text.specs.declared.script.Script.{Script}
 use Rattle.script_text.specs.Words.{is_note}
-use Rattle.script_text.specs.Grammar.{is_line_end, case_word, IsFileForm, IsOpening, IsEdit, IsCommand, IsOpeningLine, IsCommandLine, AreLines, none, note, line, IsTextOf}
+use Rattle.script_text.specs.Grammar.{is_line_end, case_word, sensitivity_word, input_word, IsFileForm, IsOpening, IsEdit, IsCommand, IsOpeningLine, IsCommandLine, AreLines, none, note, line, IsTextOf}
 use Rattle.script_text.specs.Spelling.{is_plain, spelled}
 use Rattle.script_text.specs.Writing.{spaced, tail_text, file_words, opening_words, edit_words, command_words, opening_text, line_text, ended, lines_text, text_of}
 use Rattle.script_text.proofs.Digits.{both, digits_of_decimal}
@@ -63,6 +66,8 @@ command_form (Scan path) words h = (h.0, refl)
 command_form (Find path) words h = (h.0, refl)
 command_form (KindOf path) words h = (h.0, refl)
 command_form (VersionOf path) words h = (h.0, refl)
+command_form (Print inputs) words h = (h.0, h.1, h.2, refl)
+command_form (Build inputs) words h = (h.0, h.1, h.2, refl)
 
 -- ---- and none of them is empty
 
@@ -80,6 +85,16 @@ full_file name path (b ∷ bytes) h = (h, (full_path path, (eqb-suc-zero (length
 full_case : (case : NameCase) → is_empty (case_word case) ≡ false
 full_case Sensitive = refl
 full_case Insensitive = refl
+
+full_input : (s : Sensitivity) (text : List ℕ) → is_empty (sensitivity_word s ++ text) ≡ false
+full_input Absolute text = eqb-suc-zero (length (98 ∷ 115 ∷ 58 ∷ text))
+full_input Relative text = eqb-suc-zero (length (101 ∷ 108 ∷ 58 ∷ text))
+full_input NameOnly text = eqb-suc-zero (length (97 ∷ 109 ∷ 101 ∷ 58 ∷ text))
+full_input Ignored text = eqb-suc-zero (length (111 ∷ 110 ∷ 101 ∷ 58 ∷ text))
+
+full_inputs : (inputs : List Input) → AllFull (map input_word inputs)
+full_inputs [] = tt
+full_inputs (i ∷ inputs) = (full_input i.sensitivity (path_text i.root), full_inputs inputs)
 
 opening_full : (o : Opening) (words : List (List ℕ)) → IsOpening o words → AllFull (opening_words o)
 opening_full (Case case) words h = (refl, (full_case case, tt))
@@ -109,6 +124,8 @@ command_full (Scan path) = (refl, (full_path path, tt))
 command_full (Find path) = (refl, (full_path path, tt))
 command_full (KindOf path) = (refl, (full_path path, tt))
 command_full (VersionOf path) = (refl, (full_path path, tt))
+command_full (Print inputs) = (refl, full_inputs inputs)
+command_full (Build inputs) = (refl, full_inputs inputs)
 
 -- ---- lines
 

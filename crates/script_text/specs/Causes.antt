@@ -1,7 +1,7 @@
 -- The numbers of causes.
 use Rattle.std.specs.Prelude.{ℕ}
 use Rattle.script_text.specs.declared.cause.Cause.{Cause}
-use Rattle.script_text.specs.declared.cause.Cause.TheVariants.{NoLineEnd, BadEscape, EmptyWord, UnknownWord, BadCaller, BadNumber, Repeated, LateSetting, WrongCount, BadPath, TooLarge}
+use Rattle.script_text.specs.declared.cause.Cause.TheVariants.{NoLineEnd, BadEscape, EmptyWord, UnknownWord, BadCaller, BadNumber, Repeated, LateSetting, WrongCount, BadPath, TooLarge, BadInput}
 
 -- the number that is printed for a cause
 abbrev pub number_of_cause : Cause → ℕ
@@ -16,3 +16,4 @@ number_of_cause LateSetting = 8
 number_of_cause WrongCount = 9
 number_of_cause (BadPath refusal) = 10
 number_of_cause TooLarge = 11
+number_of_cause BadInput = 12

@@ -1,6 +1,6 @@
 -- What the text of a script is, apart from any reading.
-use Rattle.std.specs.Prelude.{◌≡◌, ℕ, ◌≤◌, ◌⊎◌, List, [], ◌∷◌, ◌++◌, length, Bool, true, false, Ok, codes, ◌==◌}
-use Rattle.std.specs.List.{slice_split}
+use Rattle.std.specs.Prelude.{◌≡◌, ℕ, ◌≤◌, ◌⊎◌, List, [], ◌∷◌, ◌++◌, length, map, Bool, true, false, Ok, codes, ◌==◌}
+use Rattle.std.specs.List.{slice_split, AllByRecursion as Each}
 use Rattle.std.specs.Fmt.{decimal}
 use Rattle.vfs_model.specs.declared.Case.{Case as NameCase}
 use Rattle.vfs_model.specs.declared.Case.TheVariants.{Sensitive, Insensitive}
@@ -8,12 +8,15 @@ use Rattle.vfs_model.specs.Paths.{Path}
 use Rattle.vfs_path.specs.Texts.{IsPath, path_text}
 use Rattle.world_model.specs.declared.edit.Edit.{Edit as EditValue}
 use Rattle.world_model.specs.declared.edit.Edit.TheVariants.{Write, Mkdir, Remove, Move}
+use Rattle.fingerprint_norms.specs.declared.input.Input.{Input}
+use Rattle.fingerprint_norms.specs.declared.input.Sensitivity.{Sensitivity}
+use Rattle.fingerprint_norms.specs.declared.input.Sensitivity.TheVariants.{Absolute, Relative, NameOnly, Ignored}
 use Rattle.script_text.specs.declared.script.TextKind.{TextKind}
 use Rattle.script_text.specs.declared.script.TextKind.TheVariants as kinds
 use Rattle.script_text.specs.declared.script.Opening.{Opening}
 use Rattle.script_text.specs.declared.script.Opening.TheVariants.{Case, Queue, Places, Workers, Dir, File}
 use Rattle.script_text.specs.declared.script.Command.{Command}
-use Rattle.script_text.specs.declared.script.Command.TheVariants.{Edit, Event, Lose, Deliver, Settle, Begin, Read, Publish, Abandon, Scan, Find, KindOf, VersionOf}
+use Rattle.script_text.specs.declared.script.Command.TheVariants.{Edit, Event, Lose, Deliver, Settle, Begin, Read, Publish, Abandon, Scan, Find, KindOf, VersionOf, Print, Build}
 use Rattle.script_text.specs.declared.script.Line.{Line}
 use Rattle.script_text.specs.declared.script.Script.{Script}
 use Rattle.script_text.specs.Words.{is_note, words_of}
@@ -46,6 +49,21 @@ case_word Insensitive = codes "insensitive"
 abbrev pub IsCaseForm : List ℕ → NameCase → List (List ℕ) → Type 0
 IsCaseForm name case words = words ≡ name ∷ case_word case ∷ []
 
+-- what an input begins with, for how much of the paths is taken
+abbrev pub sensitivity_word : Sensitivity → List ℕ
+sensitivity_word Absolute = codes "abs:"
+sensitivity_word Relative = codes "rel:"
+sensitivity_word NameOnly = codes "name:"
+sensitivity_word Ignored = codes "none:"
+
+-- the word of an input: what it begins with, and the text of its root
+abbrev pub input_word : Input → List ℕ
+input_word i = sensitivity_word i.sensitivity ++ path_text i.root
+
+-- a name and 1 to 64 inputs
+abbrev pub IsInputsForm : List ℕ → List Input → List (List ℕ) → Type 0
+IsInputsForm name inputs words = (1 ≤ length inputs) × (length inputs ≤ 64) × Each (λ (i : Input). IsPath i.root) inputs × (words ≡ name ∷ map input_word inputs)
+
 -- the words of an opening line after `set`
 abbrev pub IsOpening : Opening → List (List ℕ) → Type 0
 IsOpening (Case case) words = IsCaseForm (codes "case") case words
@@ -77,6 +95,8 @@ IsCommand (Scan path) words = IsPathForm (codes "scan") path words
 IsCommand (Find path) words = IsPathForm (codes "find") path words
 IsCommand (KindOf path) words = IsPathForm (codes "kind") path words
 IsCommand (VersionOf path) words = IsPathForm (codes "version") path words
+IsCommand (Print inputs) words = IsInputsForm (codes "print") inputs words
+IsCommand (Build inputs) words = IsInputsForm (codes "build") inputs words
 
 -- ---- lines
 

@@ -4,7 +4,7 @@ use Rattle.std.specs.List.{slice_split, list_any}
 use Rattle.vfs_path.specs.Texts.{is_empty}
 use Rattle.script_text.specs.declared.cause.Cause.{Cause}
 use Rattle.script_text.specs.declared.cause.Cause.TheVariants as causes
-use Rattle.script_text.specs.Steps.{◌>>=◌}
+use Rattle.script_text.specs.Steps.{◌>>=◌, all_from}
 
 -- an empty line and a line that begins with `#` are notes
 abbrev pub is_note : List ℕ → Bool
@@ -35,8 +35,7 @@ value_of (b ∷ h ∷ l ∷ rest) = if b == 37 then named_before (hex_pair (hex_
 
 -- the values of words, from the first to the last
 unfoldable pub values_of : List (List ℕ) → Result (List (List ℕ)) Cause
-values_of [] = Ok []
-values_of (w ∷ ws) = value_of w >>= λ v. values_of ws >>= λ vs. Ok (v ∷ vs)
+values_of words = all_from value_of words
 
 -- the values of the words of a line, which are what stands between its spaces
 unfoldable pub words_of : List ℕ → Result (List (List ℕ)) Cause

@@ -1,19 +1,20 @@
 -- The one text that is written for a script.
-use Rattle.std.specs.Prelude.{ℕ, List, [], ◌∷◌, ◌++◌, codes}
+use Rattle.std.specs.Prelude.{ℕ, List, [], ◌∷◌, ◌++◌, map, codes}
 use Rattle.std.specs.List.{flat_map}
 use Rattle.std.specs.Fmt.{decimal}
 use Rattle.vfs_model.specs.Paths.{Path}
 use Rattle.vfs_path.specs.Texts.{path_text}
 use Rattle.world_model.specs.declared.edit.Edit.{Edit as EditValue}
 use Rattle.world_model.specs.declared.edit.Edit.TheVariants.{Write, Mkdir, Remove, Move}
+use Rattle.fingerprint_norms.specs.declared.input.Input.{Input}
 use Rattle.script_text.specs.declared.script.TextKind.TheVariants.{Replay}
 use Rattle.script_text.specs.declared.script.Opening.{Opening}
 use Rattle.script_text.specs.declared.script.Opening.TheVariants.{Case, Queue, Places, Workers, Dir, File}
 use Rattle.script_text.specs.declared.script.Command.{Command}
-use Rattle.script_text.specs.declared.script.Command.TheVariants.{Edit, Event, Lose, Deliver, Settle, Begin, Read, Publish, Abandon, Scan, Find, KindOf, VersionOf}
+use Rattle.script_text.specs.declared.script.Command.TheVariants.{Edit, Event, Lose, Deliver, Settle, Begin, Read, Publish, Abandon, Scan, Find, KindOf, VersionOf, Print, Build}
 use Rattle.script_text.specs.declared.script.Line.{Line}
 use Rattle.script_text.specs.declared.script.Script.{Script}
-use Rattle.script_text.specs.Grammar.{case_word, IsTextOf}
+use Rattle.script_text.specs.Grammar.{case_word, input_word, IsTextOf}
 use Rattle.script_text.specs.Spelling.{spelled}
 
 -- ---- words
@@ -42,6 +43,10 @@ two_path_words name from to = name ∷ path_text from ∷ path_text to ∷ []
 abbrev pub file_words : List ℕ → Path → List ℕ → List (List ℕ)
 file_words name path [] = name ∷ path_text path ∷ []
 file_words name path (b ∷ bytes) = name ∷ path_text path ∷ (b ∷ bytes) ∷ []
+
+-- a name and inputs
+abbrev pub inputs_words : List ℕ → List Input → List (List ℕ)
+inputs_words name inputs = name ∷ map input_word inputs
 
 -- the words of an opening line after `set`
 abbrev pub opening_words : Opening → List (List ℕ)
@@ -74,6 +79,8 @@ command_words (Scan path) = path_words (codes "scan") path
 command_words (Find path) = path_words (codes "find") path
 command_words (KindOf path) = path_words (codes "kind") path
 command_words (VersionOf path) = path_words (codes "version") path
+command_words (Print inputs) = inputs_words (codes "print") inputs
+command_words (Build inputs) = inputs_words (codes "build") inputs
 
 -- ---- lines
 

@@ -35,10 +35,12 @@ pub enum Cause {
     BadPath(PathError),
     /// The contents of a file have more than 1,048,576 bytes.
     TooLarge,
+    /// An input begins with none of `abs:`, `rel:`, `name:` and `none:`.
+    BadInput,
 }
 
 impl Cause {
-    /// The number of the cause. Causes of forms that are not known yet have the numbers between.
+    /// The number of the cause, from 1 to 12.
     pub fn number(self) -> u64
         ensures { result ≡ number_of_cause self }
     {
@@ -54,6 +56,7 @@ impl Cause {
             Cause::WrongCount => 9,
             Cause::BadPath(_) => 10,
             Cause::TooLarge => 11,
+            Cause::BadInput => 12,
         }
     }
 }

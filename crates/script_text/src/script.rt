@@ -3,6 +3,7 @@
 ghost use Rattle.std.specs.Prelude.{◌≡◌, [], ◌∷◌, ◌++◌, ◌==◌, length, IfOk, OnOk, OnErr};
 
 use case_order::{Case, NoMemory, Share, share_all};
+use fingerprint_norms::Inputs;
 use merkle_hash::Bytes;
 use std::alloc::AllocError;
 use std::marker::Model;
@@ -66,6 +67,12 @@ pub enum Command {
     KindOf(Path),
     /// `version PATH`: the path's version.
     VersionOf(Path),
+    /// `print INPUT ..`: the fingerprint of 1 to 64 inputs. An input is `abs:`, `rel:`, `name:` or
+    /// `none:`, for how much of the paths is taken, and the text of its root.
+    Print(Inputs),
+    /// `build INPUT ..`: all that is pending is delivered, what is not retained of 1 to 64 inputs is
+    /// scanned, and their fingerprint is taken.
+    Build(Inputs),
 }
 
 /// A command line.
@@ -117,6 +124,8 @@ impl Share for Command {
             Command::Find(path) => Command::Find(path.share()?),
             Command::KindOf(path) => Command::KindOf(path.share()?),
             Command::VersionOf(path) => Command::VersionOf(path.share()?),
+            Command::Print(inputs) => Command::Print(inputs.share()?),
+            Command::Build(inputs) => Command::Build(inputs.share()?),
         })
     }
 }

@@ -16,6 +16,7 @@ fn numbers_causes(rt: HostRuntime) {
         (Cause::WrongCount, 9),
         (Cause::BadPath(PathError::TooDeep), 10),
         (Cause::TooLarge, 11),
+        (Cause::BadInput, 12),
     ];
     for (cause, number) in table {
         assert_eq!(rt; cause.number(), number);

@@ -1,13 +1,14 @@
 //! Writing a script.
 
-ghost use Rattle.std.specs.Prelude.{◌≡◌, ◌∷◌, [], ◌++◌, IfOk, OnOk};
+ghost use Rattle.std.specs.Prelude.{◌≡◌, ◌∷◌, [], ◌++◌, map, IfOk, OnOk};
 ghost use Rattle.vfs_path.specs.Texts.{path_text};
-ghost use Rattle.script_text.specs.Grammar.{case_word, IsTextOf};
-ghost use Rattle.script_text.specs.Writing.{spaced, tail_text, number_words, path_words, two_path_words, file_words, opening_words, edit_words, command_words, ended, opening_text, line_text, openings_text, lines_text, text_of, HasText};
+ghost use Rattle.script_text.specs.Grammar.{case_word, sensitivity_word, input_word, IsTextOf};
+ghost use Rattle.script_text.specs.Writing.{spaced, tail_text, number_words, path_words, two_path_words, file_words, inputs_words, opening_words, edit_words, command_words, ended, opening_text, line_text, openings_text, lines_text, text_of, HasText};
 
 use crate::script::{Command, Line, Opening, Script, TextKind};
 use crate::spelling::put_spelled;
 use case_order::{Case, NoMemory};
+use fingerprint_norms::{Input, Sensitivity};
 use merkle_hash::Bytes;
 use std::alloc::Global;
 use vfs_path::Path;
@@ -82,6 +83,48 @@ fn put_file(
     }
 }
 
+fn sensitivity_word(sensitivity: Sensitivity) -> &'static [u8]
+    ensures { result.now ≡ sensitivity_word sensitivity }
+{
+    match sensitivity {
+        Sensitivity::Absolute => b"abs:",
+        Sensitivity::Relative => b"rel:",
+        Sensitivity::NameOnly => b"name:",
+        Sensitivity::Ignored => b"none:",
+    }
+}
+
+fn word_of_input(alloc: Global, input: &Input) -> Result<Vec<u8>, NoMemory>
+    ensures { IfOk result (λ word. word.items ≡ input_word input.now) }
+{
+    let mut word = Vec::from_slice(alloc, sensitivity_word(input.sensitivity))?;
+    input.root.write(&mut word)?;
+    Ok(word)
+}
+
+fn put_input_words(alloc: Global, out: &mut Vec<u8>, inputs: &[Input]) -> Result<(), NoMemory>
+    ensures { OnOk result (out.new.items ≡ out.old.items ++ tail_text (map input_word inputs.now)) }
+{
+    for input in inputs {
+        let word = word_of_input(alloc, input)?;
+        put_word(out, word.as_slice())?;
+    }
+    Ok(())
+}
+
+/// A name, and the inputs behind it.
+fn put_inputs(
+    alloc: Global,
+    out: &mut Vec<u8>,
+    name: &[u8],
+    inputs: &[Input],
+) -> Result<(), NoMemory>
+    ensures { OnOk result (out.new.items ≡ out.old.items ++ tail_text (inputs_words name.now inputs.now)) }
+{
+    put_word(out, name)?;
+    put_input_words(alloc, out, inputs)
+}
+
 fn case_word(case: Case) -> &'static [u8]
     ensures { result.now ≡ case_word case }
 {
@@ -144,6 +187,8 @@ fn put_command(alloc: Global, out: &mut Vec<u8>, command: &Command) -> Result<()
         Command::Find(path) => put_path(alloc, out, b"find", path),
         Command::KindOf(path) => put_path(alloc, out, b"kind", path),
         Command::VersionOf(path) => put_path(alloc, out, b"version", path),
+        Command::Print(inputs) => put_inputs(alloc, out, b"print", inputs.as_slice()),
+        Command::Build(inputs) => put_inputs(alloc, out, b"build", inputs.as_slice()),
     }
 }
 

@@ -1,14 +1,3 @@
 pub mod TakeLemmas
-pub mod PrefixLemmas
-pub mod SettleLemmas
-pub mod SpentLemmas
-pub mod PrintLemmas
-pub mod ReplyLemmas
-pub mod LineLemmas
 pub mod WordLemmas
-pub mod ReportRows
-pub mod ScannedLemmas
-pub mod OpeningLemmas
-pub mod ReadLemmas
 pub mod RunLemmas
-pub mod SoundRunLemmas

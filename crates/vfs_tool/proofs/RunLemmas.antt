@@ -8,13 +8,13 @@ use Rattle.world_model.specs.Told.{TreeTold}
 use Rattle.world_model.specs.Held.{Held}
 use Rattle.world_model.specs.declared.settings.Settings.{Settings}
 use Rattle.script_text.specs.declared.script.Script.{Script}
-use Rattle.vfs_tool.specs.declared.output.Break.{Break}
-use Rattle.vfs_tool.specs.Lines.{output_lines}
-use Rattle.vfs_tool.specs.Report.{printed, printed_opening, opening_world, opening_state, lines_of}
-use Rattle.vfs_tool.specs.Printing.{RunsAll, HoldsWorld, IsOpeningOver}
+use Rattle.script_runs.specs.declared.output.Break.{Break}
+use Rattle.script_runs.specs.Lines.{output_lines}
+use Rattle.script_runs.specs.Report.{printed, printed_opening, opening_world, opening_state, lines_of}
+use Rattle.script_runs.specs.Printing.{RunsAll, HoldsWorld, IsOpeningOver}
 use Rattle.vfs_io.specs.Told.{SinkTold}
-use Rattle.vfs_tool.specs.Output.{PutsEach, Breaks, BreaksOff}
-use Rattle.vfs_tool.proofs.PrintLemmas.{more-put, breaks-before, broken-after}
+use Rattle.script_runs.specs.Output.{PutsEach, Breaks, BreaksOff}
+use Rattle.script_runs.proofs.PrintLemmas.{more-put, breaks-before, broken-after}
 
 -- what a tree in memory tells
 abbrev pub told_by : Held → TreeTold

@@ -3,16 +3,12 @@ use Rattle.std.proofs.Common.{◌≡◌, ℕ, ◌+◌, ◌≤◌, List, [], ◌�
 use Rattle.std.specs.List.{AllByRecursion as Each}
 use Rattle.std.proofs.KnownBytes.{Consumes-trans}
 use Rattle.std.specs.Io.KnownBytes.{Consumes}
-use Rattle.vfs_model.specs.Faults.{Rose}
+use Rattle.script_runs.proofs.PrintLemmas.{Rose-since}
 use Rattle.vfs_tool.specs.declared.input.Stop.{Stop}
 use Rattle.vfs_tool.specs.declared.input.Stop.TheVariants.{Fault, TooLong, NoMemory}
 use Rattle.vfs_io.specs.Told.{SourceTold, Grows, IsListed}
 use Rattle.vfs_io.proofs.GrowLemmas.{Grows-nil, Grows-trans}
 use Rattle.vfs_tool.specs.Input.{AsksAtMost, Stops, limit}
-
--- a count that rose later rose since before
-pub Rose-since : (a b c : ℕ) → a ≤ b → Rose b c → Rose a c
-Rose-since a b c le h = omega arith
 
 -- what stops a take, of a room within the limit, stops all
 pub stops_on : (e : Stop) (a b c : SourceTold) (text : List ℕ) (room : ℕ) → Consumes a.left b.left text → length text + room ≤ limit → a.faults ≤ b.faults → (e ≡ TooLong → ⊥) → Stops b c room e → Stops a c limit e

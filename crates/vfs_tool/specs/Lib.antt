@@ -1,11 +1,3 @@
-pub mod Replies
-pub mod Report
-pub mod Printing
-pub mod Settling
 pub mod Statuses
 pub mod Input
-pub mod Output
 pub mod Run
-pub mod Scanned
-pub mod Lines
-pub mod States

@@ -10,9 +10,10 @@ use Rattle.script_text.specs.declared.script.TextKind.TheVariants.{Replay}
 use Rattle.script_text.specs.Grammar.{IsTextOf}
 use Rattle.script_reader.specs.Faults.{FirstBad}
 use Rattle.vfs_tool.specs.Input.{TakesAll}
-use Rattle.vfs_tool.specs.Output.{PutsEach, PutsPart}
-use Rattle.vfs_tool.specs.Report.{lines_of, report_of}
-use Rattle.vfs_tool.specs.States.{states_of}
+use Rattle.script_runs.specs.Output.{PutsEach, PutsPart}
+use Rattle.script_runs.specs.Report.{lines_of, report_of, opening_state}
+use Rattle.script_runs.specs.States.{states_of}
+use Rattle.script_runs.specs.Shown.{BuildsShow}
 use Rattle.vfs_tool.specs.declared.status.Status.{Status}
 use Rattle.vfs_tool.specs.declared.status.Status.TheVariants.{Done, BadScript, Usage, ReadFault, WriteFault, NoMemory, TooLong}
 
@@ -22,13 +23,14 @@ IsReplay words = map string_bytes words ≡ codes "replay" ∷ []
 
 -- ---- what was put for a text
 
--- the text is that of a script, the whole report on it was put, each line by a call of its own, and each state that its run goes through is sound
+-- the text is that of a script, the whole report on it was put, each line by a call of its own, each state that its run goes through is sound, and each build in it shows the world
 pub record PutsReport (text : List ℕ) (before after : SinkTold) : Type 0 where
   pub script : Script
   pub is : IsTextOf Replay text script
   pub bytes : Appends before.written after.written (report_of script)
   pub calls : Grows before.puts after.puts (lines_of script)
   pub sound : Each IsSound (states_of script)
+  pub builds : BuildsShow (opening_state script) script.lines
 
 -- the text is that of a script, and a part of the report on it was put
 abbrev pub PutsPrefix : List ℕ → SinkTold → SinkTold → Type 0

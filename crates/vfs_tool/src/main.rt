@@ -2,15 +2,10 @@
 //! each of its commands.
 //!
 //! `run` is the program as a call: words, a source and a sink in, a status out. `input` takes the
-//! script, `replay` runs its lines on a machine, `report` has their texts, and `output` puts them.
+//! script, `script_reader` reads it, and `script_runs` does its lines and puts what they print.
 #![tactic(auto)]
 
 mod input;
-pub mod laws;
-mod opening;
-mod output;
-mod replay;
-mod report;
 mod run;
 mod status;
 

@@ -7,15 +7,15 @@ ghost use Rattle.script_text.specs.declared.script.TextKind.TheVariants.{Replay}
 ghost use Rattle.script_reader.specs.Faults.{FirstBad};
 ghost use Rattle.vfs_model.specs.Faults.{Rose};
 ghost use Rattle.vfs_tool.specs.Input.{TakesNothing, TakesAll, TakesSome, AsksAtMost, limit};
-ghost use Rattle.vfs_tool.specs.Output.{PutsEach, PutsNothing, Breaks, BreaksOff};
-ghost use Rattle.vfs_tool.specs.Printing.{CanRun, IsQueue, RunsAll, IsOpeningOver};
-ghost use Rattle.vfs_tool.specs.Report.{printed, lines_of};
+ghost use Rattle.script_runs.specs.Output.{PutsEach, PutsNothing, Breaks, BreaksOff};
+ghost use Rattle.script_runs.specs.Printing.{CanRun, IsQueue, RunsAll, IsOpeningOver};
+ghost use Rattle.script_runs.specs.Report.{printed, lines_of};
 ghost use Rattle.vfs_tool.specs.Run.{IsReplay, PutsReport, PutsPrefix, PutsLines, Reports, ReportsPrefix, ReportsLines, Answers};
 
 use crate::input::{Stop, take_all};
-use crate::output::{Break, put_openings, run_lines};
 use crate::status::Status;
 use script_reader::{Line, Script, ScriptError, read_script};
+use script_runs::{Break, put_openings, run_lines};
 use snapshot_hierarchy::FlatRetain;
 use std::alloc::Global;
 use version_hierarchy::FlatVersions;

@@ -288,6 +288,77 @@ fn overflows_its_queue(rt: HostRuntime) -> Result<(), Fail> {
     Ok(())
 }
 
+/// Puts the opening lines of a directory with so many files, each of which holds its own path.
+fn put_directory(
+    alloc: Global,
+    script: &mut Vec<u8>,
+    directory: &str,
+    count: u64,
+) -> Result<(), Fail> {
+    script.extend_from_slice(format!(in alloc; "set dir {directory}\n")?.as_bytes())?;
+    for i in 0..count {
+        let file = format!(in alloc; "{directory}/f{i:02}")?;
+        script.extend_from_slice(format!(in alloc; "set file {file} {file}\n")?.as_bytes())?;
+    }
+    Ok(())
+}
+
+#[test]
+fn builds_read_what_is_not_retained(rt: HostRuntime) -> Result<(), Fail> {
+    let alloc = rt.alloc();
+    let mut script = Vec::new(alloc);
+    put_directory(alloc, &mut script, "/src", 20)?;
+    put_directory(alloc, &mut script, "/lib", 15)?;
+    put_directory(alloc, &mut script, "/conf", 5)?;
+    script.extend_from_slice(
+        b"0 build rel:/src name:/lib none:/conf\n\
+        0 build rel:/src name:/lib none:/conf\n\
+        1 write /src/f07 new\n\
+        0 build rel:/src name:/lib none:/conf\n",
+    )?;
+    let ended = run_with(alloc, &["replay"], script.as_slice(), &[], &[])?;
+    assert_eq!(rt; ended.status, Status::Done);
+    let mut wanted = Vec::new(alloc);
+    for _ in 0..43u64 {
+        wanted.extend_from_slice(b"ok\n")?;
+    }
+    wanted.extend_from_slice(
+        b"build a37dd30f6db0ff14b51027427c263b05 hits 0 misses 3 reads 43\n\
+        build a37dd30f6db0ff14b51027427c263b05 hits 3 misses 0 reads 0\n\
+        ok\n\
+        build c99fbd57fdd6d48ac455b8a2d092d0e8 hits 2 misses 1 reads 21\n",
+    )?;
+    assert_eq!(rt; ended.written.as_slice(), wanted.as_slice());
+    Ok(())
+}
+
+#[test]
+fn keeps_fingerprints_until_something_related_is_delivered(rt: HostRuntime) -> Result<(), Fail> {
+    let table: [(&[u8], &[u8]); 3] = [
+        (
+            b"set file /f abc\n0 scan /f\n0 print rel:/f\n1 write /f a\n0 scan /f\n0 find /f\n\
+            0 print rel:/f\n1 deliver\n0 print rel:/f\n",
+            b"ok\nstored reads 1\nprint 57b961e181f276259f06131b85dd3ae7\nok\nstored reads 1\n\
+            file 0cc175b9c0f1b6a831c399e269772661\nprint 57b961e181f276259f06131b85dd3ae7\n\
+            delivered /f\nunknown 0\n",
+        ),
+        (
+            b"set file /h a\nset dir /r\nset dir /r/e\nset dir /r/s\nset file /r/s/t abc\n\
+            0 print rel:/h rel:/r\n0 scan /h\n0 print rel:/h rel:/r\n0 scan /r\n\
+            0 print rel:/h rel:/r\n",
+            b"ok\nok\nok\nok\nok\nunknown 0\nstored reads 1\nunknown 1\nstored reads 4\n\
+            print adf360ac0907cef23cb6f21781ef529c\n",
+        ),
+        (
+            b"0 begin /\n0 build none:/\n1 build none:/\n1 lose\n1 print none:/\n1 deliver\n\
+            1 print none:/\n",
+            b"version 0\nopen\nbuild d41d8cd98f00b204e9800998ecf8427e hits 0 misses 1 reads 1\n\
+            lost\nprint d41d8cd98f00b204e9800998ecf8427e\ncleared\nunknown 0\n",
+        ),
+    ];
+    assert_reports(&rt, rt.alloc(), &table)
+}
+
 #[test]
 fn refuses_other_words(rt: HostRuntime) -> Result<(), Fail> {
     let table: [&[&str]; 5] = [

@@ -3,9 +3,9 @@ use Rattle.std.proofs.lemmas.Result.{on_ok_weaker, IfErr-weaker, err_from_is_err
 use Rattle.script_text.specs.declared.script.Line.{Line}
 use Rattle.script_text.specs.declared.script.Opening.{Opening}
 use Rattle.vfs_model.specs.History.{empty_world}
-use Rattle.vfs_tool.specs.Report.{printed, printed_opening}
-use Rattle.vfs_tool.specs.Printing.{RunsAll, HoldsWorld, IsOpeningOver}
-use Rattle.vfs_tool.specs.Output.{BreaksOff}
+use Rattle.script_runs.specs.Report.{printed, printed_opening}
+use Rattle.script_runs.specs.Printing.{RunsAll, HoldsWorld, IsOpeningOver}
+use Rattle.script_runs.specs.Output.{BreaksOff}
 use Rattle.vfs_tool.proofs.RunLemmas.{told_by, holds-empty, all-put, broke-late, broke-early}
 use Rattle.vfs_tool.proofs.run.run_script.Goals as goal
 

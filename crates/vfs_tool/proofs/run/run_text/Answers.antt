@@ -1,6 +1,7 @@
 use Rattle.std.proofs.Common.{arith}
-use Rattle.vfs_tool.proofs.LineLemmas.{text-runs, text-few, text-queue}
-use Rattle.vfs_tool.proofs.SoundRunLemmas.{states_of-sound}
+use Rattle.script_runs.proofs.LineLemmas.{text-runs, text-few, text-queue}
+use Rattle.script_runs.proofs.SoundRunLemmas.{states_of-sound}
+use Rattle.script_runs.proofs.ShownLemmas.{builds-show}
 use Rattle.vfs_tool.proofs.run.run_text.Goals as goal
 
 pub run_script-requires-clause-queue : goal.run_script-requires-clause-queue
@@ -19,4 +20,5 @@ returns-in-Ok-run_script-clause-done g c = λ e. record {
   bytes = c.in-Ok-run_script.ensures.ok.bytes;
   calls = c.in-Ok-run_script.ensures.ok.calls;
   sound = states_of-sound c.args.text.now c.in-Ok.script c.in-Ok.ensures.found;
+  builds = builds-show c.args.text.now c.in-Ok.script c.in-Ok.ensures.found;
 }

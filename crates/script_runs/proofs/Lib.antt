@@ -1,0 +1,15 @@
+pub mod PrefixLemmas
+pub mod SettleLemmas
+pub mod SpentLemmas
+pub mod PrintLemmas
+pub mod ReplyLemmas
+pub mod LineLemmas
+pub mod ReportRows
+pub mod BuildRows
+pub mod ScannedLemmas
+pub mod OpeningLemmas
+pub mod ReadLemmas
+pub mod SoundRunLemmas
+pub mod BuildLemmas
+pub mod BuildRunLemmas
+pub mod ShownLemmas

@@ -1,0 +1,12 @@
+pub mod Replies
+pub mod Calls
+pub mod Report
+pub mod Printing
+pub mod Settling
+pub mod Output
+pub mod Scanned
+pub mod Lines
+pub mod Building
+pub mod Taking
+pub mod States
+pub mod Shown

@@ -1,0 +1,19 @@
+//! What a script prints, and running it: its lines are done one after the other, over a tree and on a
+//! machine, and the output line of each is put.
+//!
+//! `opening` does the opening lines, `replay` the command lines, `build` those that show
+//! fingerprints, `report` has the texts of the answers, and `output` puts them. `laws` says what holds
+//! of each state that a run goes through.
+#![tactic(auto)]
+
+mod build;
+pub mod laws;
+mod opening;
+mod output;
+mod replay;
+mod report;
+
+pub use output::{Break, put_openings, run_lines};
+
+#[cfg(test)]
+mod tests;

@@ -1,0 +1,143 @@
+//! Output lines, put one by one as the lines of a script are done.
+
+ghost use Rattle.std.specs.Prelude.{◌≡◌, ◌≤◌, [], ◌∷◌, length, IfErr, OnOk, is_some};
+ghost use Rattle.std.specs.List.{AllByRecursion as Each};
+ghost use Rattle.vfs_model.specs.declared.Case.{Case};
+ghost use Rattle.vfs_model.specs.Stands.{Stands};
+ghost use Rattle.script_text.specs.Writing.{ended};
+ghost use Rattle.script_runs.specs.Report.{printed, printed_opening};
+ghost use Rattle.script_runs.specs.Printing.{CanRun, IsReady, RunsAll, HoldsWorld};
+ghost use Rattle.script_runs.specs.Output.{PutsEach, Breaks, BreaksOff};
+
+use crate::opening::open;
+use crate::replay::run_line;
+use script_text::{Line, Opening};
+use snapshot_hierarchy::Retain;
+use std::alloc::Global;
+use version_hierarchy::Versions;
+use vfs_io::{Failed, Sink};
+use vfs_machine::Machine;
+use world_model::Tree;
+
+/// Why a report was not put to its end.
+#[derive(Clone, Copy, Debug, PartialEq, Eq)]
+pub enum Break {
+    /// The sink failed.
+    Fault,
+    /// Want of memory.
+    NoMemory,
+}
+
+/// Puts the text as a line of its own, by one put.
+fn put_text<K: Sink>(mut text: Vec<u8>, sink: &mut K) -> Result<(), Break>
+    ensures ok { OnOk result
+        (PutsEach (K.told sink.old) (K.told sink.new) (ended text.items ∷ [])) }
+    ensures err { IfErr result (λ e.
+        Breaks (K.told sink.old) (K.told sink.new) (ended text.items ∷ []) e) }
+    ensures later { (K.told sink.old).faults ≤ (K.told sink.new).faults }
+{
+    if text.push(b'\n').is_err() {
+        return Err(Break::NoMemory);
+    }
+    match sink.put(text.as_slice()) {
+        Ok(()) => Ok(()),
+        Err(Failed) => Err(Break::Fault),
+    }
+}
+
+/// Does what an opening line asks for, and puts its output line.
+fn put_opening<T: Tree, K: Sink>(
+    alloc: Global,
+    tree: &mut T,
+    opening: &Opening,
+    sink: &mut K,
+) -> Result<(), Break>
+    ensures ok { OnOk result ((case : Case) → RunsAll (printed_opening case)
+        (HoldsWorld case (T.told tree.old)) (HoldsWorld case (T.told tree.new)) (opening.now ∷ [])
+        (K.told sink.old) (K.told sink.new)) }
+    ensures err { IfErr result (λ e. (case : Case) → BreaksOff (printed_opening case)
+        (HoldsWorld case (T.told tree.old)) (opening.now ∷ [])
+        (K.told sink.old) (K.told sink.new) e) }
+    ensures later { (K.told sink.old).faults ≤ (K.told sink.new).faults }
+{
+    let Ok(text) = open(alloc, tree, opening) else {
+        return Err(Break::NoMemory);
+    };
+    put_text(text, sink)
+}
+
+/// Does what the opening lines ask for, in order, and puts the output line of each.
+///
+/// `Fault` comes only where the sink's count of faults rose in this call; the only other error is
+/// want of memory.
+pub fn put_openings<T: Tree, K: Sink>(
+    alloc: Global,
+    tree: &mut T,
+    openings: &[Opening],
+    sink: &mut K,
+) -> Result<(), Break>
+    ensures ok { OnOk result ((case : Case) → RunsAll (printed_opening case)
+        (HoldsWorld case (T.told tree.old)) (HoldsWorld case (T.told tree.new)) openings.now
+        (K.told sink.old) (K.told sink.new)) }
+    ensures err { IfErr result (λ e. (case : Case) → BreaksOff (printed_opening case)
+        (HoldsWorld case (T.told tree.old)) openings.now
+        (K.told sink.old) (K.told sink.new) e) }
+    ensures later { (K.told sink.old).faults ≤ (K.told sink.new).faults }
+{
+    for opening in openings {
+        put_opening(alloc, tree, opening, sink)?;
+    }
+    Ok(())
+}
+
+/// Runs a command line, and puts its output line.
+fn put_line<T: Tree, R: Retain, V: Versions + Drop, K: Sink>(
+    alloc: Global,
+    machine: &mut Machine<T, R, V>,
+    line: &Line,
+    sink: &mut K,
+) -> Result<(), Break>
+    requires line { CanRun line.now }
+    requires ready { IsReady V.version V.count machine.old 1 }
+    requires faultless { T.most_faults ≡ 0 }
+    ensures ok { OnOk result (RunsAll printed
+        (Stands V.version V.count machine.old) (Stands V.version V.count machine.new)
+        (line.now ∷ []) (K.told sink.old) (K.told sink.new)) }
+    ensures err { IfErr result (λ e. BreaksOff printed
+        (Stands V.version V.count machine.old) (line.now ∷ [])
+        (K.told sink.old) (K.told sink.new) e) }
+    ensures tells { is_some machine.new.content ≡ is_some machine.old.content }
+    ensures later { (K.told sink.old).faults ≤ (K.told sink.new).faults }
+{
+    let Ok(text) = run_line(alloc, machine, line) else {
+        return Err(Break::NoMemory);
+    };
+    put_text(text, sink)
+}
+
+/// Runs the command lines in order, and puts the output line of each.
+///
+/// The machine's tree tells its content and counts no fault, so that no look fails. `Fault` comes
+/// only where the sink's count of faults rose in this call; the only other error is want of memory.
+pub fn run_lines<T: Tree, R: Retain, V: Versions + Drop, K: Sink>(
+    alloc: Global,
+    machine: &mut Machine<T, R, V>,
+    lines: &[Line],
+    sink: &mut K,
+) -> Result<(), Break>
+    requires lines { Each CanRun lines.now }
+    requires ready { IsReady V.version V.count machine.old (length lines.now) }
+    requires faultless { T.most_faults ≡ 0 }
+    ensures ok { OnOk result (RunsAll printed
+        (Stands V.version V.count machine.old) (Stands V.version V.count machine.new)
+        lines.now (K.told sink.old) (K.told sink.new)) }
+    ensures err { IfErr result (λ e. BreaksOff printed
+        (Stands V.version V.count machine.old) lines.now
+        (K.told sink.old) (K.told sink.new) e) }
+    ensures later { (K.told sink.old).faults ≤ (K.told sink.new).faults }
+{
+    for line in lines {
+        put_line(alloc, machine, line, sink)?;
+    }
+    Ok(())
+}

@@ -1,0 +1,326 @@
+//! Command lines, run one after the other on a machine.
+
+ghost use Rattle.std.specs.Prelude.{◌≡◌, ◌<◌, ◌+◌, ◌^◌, ◌++◌, true, codes, IfOk, IsSomeAnd, is_some};
+ghost use Rattle.vfs_model.specs.Pending as pending;
+ghost use Rattle.vfs_model.specs.State as state;
+ghost use Rattle.world_model.specs.Meaning.{edit_of};
+ghost use Rattle.scan_walk.specs.Scans.{running_at, AreDigests};
+ghost use Rattle.script_runs.specs.Report.{by_call, settled, scanned_or, printed};
+ghost use Rattle.script_runs.specs.Scanned.{ReadsOn};
+ghost use Rattle.script_runs.specs.Printing.{CanRun, IsReady, IsPrinted, IsPrintedOn};
+ghost use Rattle.vfs_model.specs.Stands.{Stands};
+ghost use Rattle.std.specs.Fmt.{decimal};
+ghost use Rattle.script_runs.specs.Settling.{Settles};
+
+use crate::build::{build_line, print_line};
+use crate::report::{
+    began_text, delivered_text, dropped_text, edited_text, fit_text, found_text, known_text,
+    numbered, published_text, put_number, readed_text, word,
+};
+use case_order::{NoMemory, Share};
+use merkle_hash::Digest;
+use script_text::{Command, Line};
+use snapshot_hierarchy::Retain;
+use std::alloc::Global;
+use version_hierarchy::Versions;
+use vfs_machine::{Began, Delivered, Machine, Readed, digests_of};
+use vfs_path::Path;
+use world_model::{Edit, Tree};
+
+fn edit_line<T: Tree, R: Retain, V: Versions>(
+    alloc: Global,
+    machine: &mut Machine<T, R, V>,
+    edit: &Edit,
+) -> Result<Vec<u8>, NoMemory>
+    requires { is_some machine.old.content ≡ true }
+    ensures printed { IfOk result (λ text. IsPrinted (Stands V.version V.count machine.old) (Stands V.version V.count machine.new)
+        (λ s. by_call s (state.CallEdit (edit_of edit.now))) text.items) }
+    ensures tells { is_some machine.new.content ≡ is_some machine.old.content }
+{
+    edited_text(alloc, machine.edit(edit))
+}
+
+fn event_line<T: Tree, R: Retain, V: Versions>(
+    alloc: Global,
+    machine: &mut Machine<T, R, V>,
+    path: &Path,
+) -> Result<Vec<u8>, NoMemory>
+    ensures printed { IfOk result (λ text. IsPrinted (Stands V.version V.count machine.old) (Stands V.version V.count machine.new)
+        (λ s. by_call s (state.CallEvent path.now)) text.items) }
+    ensures tells { is_some machine.new.content ≡ is_some machine.old.content }
+{
+    let path = path.share()?;
+    fit_text(alloc, machine.event(path))
+}
+
+fn lose_line<T: Tree, R: Retain, V: Versions>(
+    alloc: Global,
+    machine: &mut Machine<T, R, V>,
+) -> Result<Vec<u8>, NoMemory>
+    ensures printed { IfOk result (λ text. IsPrinted (Stands V.version V.count machine.old) (Stands V.version V.count machine.new)
+        (λ s. by_call s state.CallLose) text.items) }
+    ensures tells { is_some machine.new.content ≡ is_some machine.old.content }
+{
+    machine.lose();
+    word(alloc, b"lost")
+}
+
+fn deliver_line<T: Tree, R: Retain, V: Versions + Drop>(
+    alloc: Global,
+    machine: &mut Machine<T, R, V>,
+) -> Result<Vec<u8>, NoMemory>
+    requires { V.count machine.old.versions < 2 ^ 62 }
+    ensures printed { IfOk result (λ text. IsPrinted (Stands V.version V.count machine.old) (Stands V.version V.count machine.new)
+        (λ s. by_call s state.CallDeliver) text.items) }
+    ensures tells { is_some machine.new.content ≡ is_some machine.old.content }
+{
+    delivered_text(alloc, &machine.deliver())
+}
+
+/// Delivers until nothing is pending, and counts the deliveries.
+pub(crate) fn settle<T: Tree, R: Retain, V: Versions + Drop>(
+    machine: &mut Machine<T, R, V>,
+) -> Result<u64, NoMemory>
+    requires { V.count machine.old.versions + pending.deliveries_due machine.old.pending < 2 ^ 62 }
+    ensures settled { IfOk result (λ n. Settles V.version V.count machine.old machine.new n) }
+    ensures tells { is_some machine.new.content ≡ is_some machine.old.content }
+{
+    let mut count = 0u64;
+    loop {
+        match machine.deliver() {
+            Delivered::Event(_) => count += 1,
+            Delivered::Cleared => count += 1,
+            Delivered::Nothing => return Ok(count),
+            Delivered::NoMemory => return Err(NoMemory),
+        }
+    }
+}
+
+fn settle_line<T: Tree, R: Retain, V: Versions + Drop>(
+    alloc: Global,
+    machine: &mut Machine<T, R, V>,
+) -> Result<Vec<u8>, NoMemory>
+    requires { V.count machine.old.versions + pending.deliveries_due machine.old.pending < 2 ^ 62 }
+    ensures printed { IfOk result (λ text. IsPrinted (Stands V.version V.count machine.old) (Stands V.version V.count machine.new)
+        settled text.items) }
+    ensures tells { is_some machine.new.content ≡ is_some machine.old.content }
+{
+    let count = settle(machine)?;
+    numbered(alloc, b"settled ", count)
+}
+
+fn begin_line<T: Tree, R: Retain, V: Versions>(
+    alloc: Global,
+    machine: &mut Machine<T, R, V>,
+    caller: u64,
+    path: &Path,
+) -> Result<Vec<u8>, NoMemory>
+    requires { caller < 16 }
+    ensures printed { IfOk result (λ text. IsPrinted (Stands V.version V.count machine.old) (Stands V.version V.count machine.new)
+        (λ s. by_call s (state.CallBegin caller path.now)) text.items) }
+    ensures tells { is_some machine.new.content ≡ is_some machine.old.content }
+{
+    began_text(alloc, machine.begin(caller, path))
+}
+
+fn read_line<T: Tree, R: Retain, V: Versions>(
+    alloc: Global,
+    machine: &mut Machine<T, R, V>,
+    caller: u64,
+) -> Result<Vec<u8>, NoMemory>
+    requires caller { caller < 16 }
+    requires content { is_some machine.old.content ≡ true }
+    requires faultless { T.most_faults ≡ 0 }
+    ensures printed { IfOk result (λ text. IsPrinted (Stands V.version V.count machine.old) (Stands V.version V.count machine.new)
+        (λ s. by_call s (state.CallRead caller)) text.items) }
+    ensures tells { is_some machine.new.content ≡ is_some machine.old.content }
+{
+    readed_text(alloc, &machine.read(caller))
+}
+
+/// The digests of what the scan with the number read; none where it is closed.
+pub(crate) fn scan_digests<T: Tree, R: Retain, V: Versions>(
+    alloc: Global,
+    machine: &Machine<T, R, V>,
+    scan: u64,
+) -> Result<Vec<Digest>, NoMemory>
+    requires { scan < 16 }
+    ensures { IfOk result (λ digests.
+        AreDigests (running_at machine.now.scans scan) digests.items) }
+{
+    match machine.contents(scan) {
+        None => Ok(Vec::new(alloc)),
+        Some(contents) => digests_of(alloc, contents),
+    }
+}
+
+fn publish_line<T: Tree, R: Retain, V: Versions>(
+    alloc: Global,
+    machine: &mut Machine<T, R, V>,
+    caller: u64,
+) -> Result<Vec<u8>, NoMemory>
+    requires { caller < 16 }
+    ensures printed { IfOk result (λ text. IsPrinted (Stands V.version V.count machine.old) (Stands V.version V.count machine.new)
+        (λ s. by_call s (state.CallPublish caller)) text.items) }
+    ensures tells { is_some machine.new.content ≡ is_some machine.old.content }
+{
+    let digests = scan_digests(alloc, machine, caller)?;
+    published_text(alloc, machine.publish(caller, digests.as_slice()))
+}
+
+fn abandon_line<T: Tree, R: Retain, V: Versions>(
+    alloc: Global,
+    machine: &mut Machine<T, R, V>,
+    caller: u64,
+) -> Result<Vec<u8>, NoMemory>
+    requires { caller < 16 }
+    ensures printed { IfOk result (λ text. IsPrinted (Stands V.version V.count machine.old) (Stands V.version V.count machine.new)
+        (λ s. by_call s (state.CallDrop caller)) text.items) }
+    ensures tells { is_some machine.new.content ≡ is_some machine.old.content }
+{
+    dropped_text(alloc, machine.drop_scan(caller))
+}
+
+/// Reads the caller's scan to its end, and counts the locations; none where a look failed.
+pub(crate) fn read_all<T: Tree, R: Retain, V: Versions>(
+    machine: &mut Machine<T, R, V>,
+    caller: u64,
+) -> Result<Option<u64>, NoMemory>
+    requires caller { caller < 16 }
+    requires content { is_some machine.old.content ≡ true }
+    requires faultless { T.most_faults ≡ 0 }
+    ensures read { IfOk result (λ read. IsSomeAnd read (λ n.
+        ReadsOn V.version V.count machine.old machine.new caller n)) }
+    ensures content { machine.new.content ≡ machine.old.content }
+{
+    for count in 0..u64::MAX {
+        match machine.read(caller) {
+            Readed::Saw(_, _, _) => {}
+            Readed::Done => return Ok(Some(count)),
+            Readed::NoScan => return Ok(Some(count)),
+            Readed::Fault => return Ok(None),
+            Readed::NoMemory => return Err(NoMemory),
+        }
+    }
+    // More locations were read than any memory holds.
+    Err(NoMemory)
+}
+
+fn with_reads(alloc: Global, mut text: Vec<u8>, reads: u64) -> Result<Vec<u8>, NoMemory>
+    ensures { IfOk result (λ line. line.items ≡ text.items ++ codes " reads " ++ decimal reads) }
+{
+    text.extend_from_slice(b" reads ")?;
+    put_number(alloc, &mut text, reads)?;
+    Ok(text)
+}
+
+/// Reads the scan that was just begun to its end, and publishes it; where a look failed, it stays in
+/// progress.
+fn scan_begun<T: Tree, R: Retain, V: Versions>(
+    alloc: Global,
+    machine: &mut Machine<T, R, V>,
+    caller: u64,
+) -> Result<Vec<u8>, NoMemory>
+    requires caller { caller < 16 }
+    requires content { is_some machine.old.content ≡ true }
+    requires faultless { T.most_faults ≡ 0 }
+    ensures printed { IfOk result (λ text.
+        IsPrintedOn V.version V.count machine.old machine.new caller text.items) }
+    ensures tells { is_some machine.new.content ≡ is_some machine.old.content }
+{
+    let Some(reads) = read_all(machine, caller)? else {
+        return word(alloc, b"fault");
+    };
+    let text = publish_line(alloc, machine, caller)?;
+    with_reads(alloc, text, reads)
+}
+
+fn scan_line<T: Tree, R: Retain, V: Versions>(
+    alloc: Global,
+    machine: &mut Machine<T, R, V>,
+    caller: u64,
+    path: &Path,
+) -> Result<Vec<u8>, NoMemory>
+    requires caller { caller < 16 }
+    requires content { is_some machine.old.content ≡ true }
+    requires faultless { T.most_faults ≡ 0 }
+    ensures printed { IfOk result (λ text. IsPrinted (Stands V.version V.count machine.old) (Stands V.version V.count machine.new)
+        (λ s. scanned_or s caller path.now (state.scan_of s caller)) text.items) }
+    ensures tells { is_some machine.new.content ≡ is_some machine.old.content }
+{
+    // The machine's word that what its tree tells is a world, and that it has sixteen scans.
+    let _case = machine.case();
+    match machine.begin(caller, path) {
+        Began::Version(_) => scan_begun(alloc, machine, caller),
+        Began::AlreadyOpen => word(alloc, b"open"),
+        Began::NoMemory => Err(NoMemory),
+    }
+}
+
+fn find_line<T: Tree, R: Retain, V: Versions>(
+    alloc: Global,
+    machine: &Machine<T, R, V>,
+    path: &Path,
+) -> Result<Vec<u8>, NoMemory>
+    ensures { IfOk result (λ text. IsPrinted (Stands V.version V.count machine.now) (Stands V.version V.count machine.now)
+        (λ s. by_call s (state.CallFind path.now)) text.items) }
+{
+    found_text(alloc, machine.find(path))
+}
+
+fn kind_line<T: Tree, R: Retain, V: Versions>(
+    alloc: Global,
+    machine: &Machine<T, R, V>,
+    path: &Path,
+) -> Result<Vec<u8>, NoMemory>
+    ensures { IfOk result (λ text. IsPrinted (Stands V.version V.count machine.now) (Stands V.version V.count machine.now)
+        (λ s. by_call s (state.CallKind path.now)) text.items) }
+{
+    known_text(alloc, machine.kind(path))
+}
+
+fn version_line<T: Tree, R: Retain, V: Versions>(
+    alloc: Global,
+    machine: &Machine<T, R, V>,
+    path: &Path,
+) -> Result<Vec<u8>, NoMemory>
+    ensures { IfOk result (λ text. IsPrinted (Stands V.version V.count machine.now) (Stands V.version V.count machine.now)
+        (λ s. by_call s (state.CallVersion path.now)) text.items) }
+{
+    numbered(alloc, b"version ", machine.version(path))
+}
+
+/// Runs a command line, and gives what is printed for it, without its line end.
+///
+/// The only error is want of memory.
+pub(crate) fn run_line<T: Tree, R: Retain, V: Versions + Drop>(
+    alloc: Global,
+    machine: &mut Machine<T, R, V>,
+    line: &Line,
+) -> Result<Vec<u8>, NoMemory>
+    requires line { CanRun line.now }
+    requires ready { IsReady V.version V.count machine.old 1 }
+    requires faultless { T.most_faults ≡ 0 }
+    ensures printed { IfOk result (λ text. IsPrinted (Stands V.version V.count machine.old) (Stands V.version V.count machine.new)
+        (λ s. printed s line.now) text.items) }
+    ensures tells { is_some machine.new.content ≡ is_some machine.old.content }
+{
+    let caller = line.caller;
+    match &line.command {
+        Command::Edit(edit) => edit_line(alloc, machine, edit),
+        Command::Event(path) => event_line(alloc, machine, path),
+        Command::Lose => lose_line(alloc, machine),
+        Command::Deliver => deliver_line(alloc, machine),
+        Command::Settle => settle_line(alloc, machine),
+        Command::Begin(path) => begin_line(alloc, machine, caller, path),
+        Command::Read => read_line(alloc, machine, caller),
+        Command::Publish => publish_line(alloc, machine, caller),
+        Command::Abandon => abandon_line(alloc, machine, caller),
+        Command::Scan(path) => scan_line(alloc, machine, caller, path),
+        Command::Find(path) => find_line(alloc, machine, path),
+        Command::KindOf(path) => kind_line(alloc, machine, path),
+        Command::VersionOf(path) => version_line(alloc, machine, path),
+        Command::Print(inputs) => print_line(alloc, machine, inputs.as_slice()),
+        Command::Build(inputs) => build_line(alloc, machine, caller, inputs.as_slice()),
+    }
+}

@@ -1,5 +1,0 @@
-use Rattle.vfs_tool.proofs.SoundRunLemmas.{states_for-ends}
-use Rattle.vfs_tool.proofs.laws.lines_end_in_their_last_state.Goals as goal
-
-pub returns : goal.returns
-returns c = λ s caller command. states_for-ends s caller command
