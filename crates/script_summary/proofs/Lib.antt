@@ -1,0 +1,3 @@
+pub mod GeneratedLemmas
+pub mod ApartLemmas
+pub mod CountLemmas
