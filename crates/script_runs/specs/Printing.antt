@@ -34,6 +34,10 @@ CanRun line = (line.caller < 16) × HasFewInputs line.command
 abbrev pub IsQueue : ℕ → Type 0
 IsQueue n = (1 ≤ n) × (n ≤ 65536)
 
+-- so many workers may hash
+abbrev pub IsWorkers : ℕ → Type 0
+IsWorkers n = (1 ≤ n) × (n ≤ 16)
+
 -- the machine stands for a state, tells its content, and has room for so many lines, each of which makes at most two invalidations due
 pub record IsReady {V : Type 0} (at : V → Path → ℕ) (count : V → ℕ) (m : Parts V) (lines : ℕ) : Type 0 where
   pub state : State

@@ -14,11 +14,13 @@ ghost use Rattle.script_runs.specs.Printing.{IsPrinted};
 
 use crate::replay::{read_all, scan_digests, settle};
 use crate::report::{numbered, printed_text, put_number, word};
+use crate::workers::Workers;
 use case_order::NoMemory;
 use fingerprint_norms::Input;
 use merkle_hash::Digest;
 use snapshot_hierarchy::Retain;
 use std::alloc::Global;
+use std::thread::Threads;
 use version_hierarchy::Versions;
 use vfs_machine::{Answer, Began, Machine, Printed};
 use vfs_path::Path;
@@ -81,7 +83,8 @@ pub(crate) fn print_line<T: Tree, R: Retain, V: Versions>(
 
 /// Reads the scan that was just begun to its end, publishes it, and tells how many locations were
 /// read; where a look failed, the scan is dropped, and none is told.
-fn publish_begun<T: Tree, R: Retain, V: Versions>(
+fn publish_begun<H: Threads + Sync, T: Tree, R: Retain, V: Versions>(
+    workers: &Workers<H>,
     alloc: Global,
     machine: &mut Machine<T, R, V>,
     caller: u64,
@@ -97,7 +100,7 @@ fn publish_begun<T: Tree, R: Retain, V: Versions>(
         machine.drop_scan(caller);
         return Ok(None);
     };
-    let digests = scan_digests(alloc, machine, caller)?;
+    let digests = scan_digests(workers, alloc, machine, caller)?;
     match machine.publish(caller, digests.as_slice()) {
         Answer::NoMemory => Err(NoMemory),
         _ => Ok(Some(reads)),
@@ -106,7 +109,8 @@ fn publish_begun<T: Tree, R: Retain, V: Versions>(
 
 /// Scans the root whole, and tells how many locations were read; none where a look failed, and the
 /// scan is closed then too.
-fn scan_root<T: Tree, R: Retain, V: Versions>(
+fn scan_root<H: Threads + Sync, T: Tree, R: Retain, V: Versions>(
+    workers: &Workers<H>,
     alloc: Global,
     machine: &mut Machine<T, R, V>,
     caller: u64,
@@ -123,14 +127,15 @@ fn scan_root<T: Tree, R: Retain, V: Versions>(
     // The machine's word that what its tree tells is a world, and that it has sixteen scans.
     let _case = machine.case();
     match machine.begin(caller, root) {
-        Began::Version(_) => publish_begun(alloc, machine, caller),
+        Began::Version(_) => publish_begun(workers, alloc, machine, caller),
         Began::AlreadyOpen => unreachable!(),
         Began::NoMemory => Err(NoMemory),
     }
 }
 
 /// Takes an input: where its root is not retained, it is scanned. None where a look failed.
-fn take_input<T: Tree, R: Retain, V: Versions>(
+fn take_input<H: Threads + Sync, T: Tree, R: Retain, V: Versions>(
+    workers: &Workers<H>,
     alloc: Global,
     machine: &mut Machine<T, R, V>,
     caller: u64,
@@ -149,14 +154,15 @@ fn take_input<T: Tree, R: Retain, V: Versions>(
     if machine.find(&input.root).is_some() {
         return Ok(Some(counts.with_hit()));
     }
-    match scan_root(alloc, machine, caller, &input.root)? {
+    match scan_root(workers, alloc, machine, caller, &input.root)? {
         None => Ok(None),
         Some(reads) => Ok(Some(counts.with_miss(reads)?)),
     }
 }
 
 /// Takes the inputs in order, and counts what came of them; none where a look failed.
-fn take_inputs<T: Tree, R: Retain, V: Versions>(
+fn take_inputs<H: Threads + Sync, T: Tree, R: Retain, V: Versions>(
+    workers: &Workers<H>,
     alloc: Global,
     machine: &mut Machine<T, R, V>,
     caller: u64,
@@ -177,7 +183,7 @@ fn take_inputs<T: Tree, R: Retain, V: Versions>(
         reads: 0,
     };
     for input in inputs {
-        match take_input(alloc, machine, caller, input, counts)? {
+        match take_input(workers, alloc, machine, caller, input, counts)? {
             None => return Ok(None),
             Some(more) => counts = more,
         }
@@ -227,7 +233,8 @@ fn fingerprint_built<T: Tree, R: Retain, V: Versions>(
 
 /// Delivers all that is pending, retains what is not retained of the inputs, and shows their
 /// fingerprint; nothing of this where the caller's scan is in progress.
-pub(crate) fn build_line<T: Tree, R: Retain, V: Versions + Drop>(
+pub(crate) fn build_line<H: Threads + Sync, T: Tree, R: Retain, V: Versions + Drop>(
+    workers: &Workers<H>,
     alloc: Global,
     machine: &mut Machine<T, R, V>,
     caller: u64,
@@ -249,7 +256,7 @@ pub(crate) fn build_line<T: Tree, R: Retain, V: Versions + Drop>(
     // The machine's word that it stands for a state.
     let _case = machine.case();
     let _delivered = settle(machine)?;
-    match take_inputs(alloc, machine, caller, inputs)? {
+    match take_inputs(workers, alloc, machine, caller, inputs)? {
         None => word(alloc, b"fault"),
         Some(counts) => fingerprint_built(alloc, machine, inputs, counts),
     }

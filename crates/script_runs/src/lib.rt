@@ -2,8 +2,8 @@
 //! machine, and the output line of each is put.
 //!
 //! `opening` does the opening lines, `replay` the command lines, `build` those that show
-//! fingerprints, `report` has the texts of the answers, and `output` puts them. `laws` says what holds
-//! of each state that a run goes through.
+//! fingerprints, `workers` hashes what they publish, `report` has the texts of the answers, and
+//! `output` puts them. `laws` says what holds of each state that a run goes through.
 #![tactic(auto)]
 
 mod build;
@@ -12,6 +12,7 @@ mod opening;
 mod output;
 mod replay;
 mod report;
+mod workers;
 
 pub use output::{Break, put_openings, run_lines};
 

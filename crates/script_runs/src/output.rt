@@ -6,14 +6,16 @@ ghost use Rattle.vfs_model.specs.declared.Case.{Case};
 ghost use Rattle.vfs_model.specs.Stands.{Stands};
 ghost use Rattle.script_text.specs.Writing.{ended};
 ghost use Rattle.script_runs.specs.Report.{printed, printed_opening};
-ghost use Rattle.script_runs.specs.Printing.{CanRun, IsReady, RunsAll, HoldsWorld};
+ghost use Rattle.script_runs.specs.Printing.{CanRun, IsReady, IsWorkers, RunsAll, HoldsWorld};
 ghost use Rattle.script_runs.specs.Output.{PutsEach, Breaks, BreaksOff};
 
 use crate::opening::open;
 use crate::replay::run_line;
+use crate::workers::Workers;
 use script_text::{Line, Opening};
 use snapshot_hierarchy::Retain;
 use std::alloc::Global;
+use std::thread::Threads;
 use version_hierarchy::Versions;
 use vfs_io::{Failed, Sink};
 use vfs_machine::Machine;
@@ -91,7 +93,8 @@ pub fn put_openings<T: Tree, K: Sink>(
 }
 
 /// Runs a command line, and puts its output line.
-fn put_line<T: Tree, R: Retain, V: Versions + Drop, K: Sink>(
+fn put_line<H: Threads + Sync, T: Tree, R: Retain, V: Versions + Drop, K: Sink>(
+    workers: &Workers<H>,
     alloc: Global,
     machine: &mut Machine<T, R, V>,
     line: &Line,
@@ -109,22 +112,26 @@ fn put_line<T: Tree, R: Retain, V: Versions + Drop, K: Sink>(
     ensures tells { is_some machine.new.content ≡ is_some machine.old.content }
     ensures later { (K.told sink.old).faults ≤ (K.told sink.new).faults }
 {
-    let Ok(text) = run_line(alloc, machine, line) else {
+    let Ok(text) = run_line(workers, alloc, machine, line) else {
         return Err(Break::NoMemory);
     };
     put_text(text, sink)
 }
 
-/// Runs the command lines in order, and puts the output line of each.
+/// Runs the command lines in order, and puts the output line of each. What a line publishes is
+/// hashed by 1 to 16 workers, on whose number no output depends.
 ///
 /// The machine's tree tells its content and counts no fault, so that no look fails. `Fault` comes
 /// only where the sink's count of faults rose in this call; the only other error is want of memory.
-pub fn run_lines<T: Tree, R: Retain, V: Versions + Drop, K: Sink>(
+pub fn run_lines<H: Threads + Sync, T: Tree, R: Retain, V: Versions + Drop, K: Sink>(
+    rt: &H,
     alloc: Global,
+    workers: u64,
     machine: &mut Machine<T, R, V>,
     lines: &[Line],
     sink: &mut K,
 ) -> Result<(), Break>
+    requires workers { IsWorkers workers }
     requires lines { Each CanRun lines.now }
     requires ready { IsReady V.version V.count machine.old (length lines.now) }
     requires faultless { T.most_faults ≡ 0 }
@@ -136,8 +143,9 @@ pub fn run_lines<T: Tree, R: Retain, V: Versions + Drop, K: Sink>(
         (K.told sink.old) (K.told sink.new) e) }
     ensures later { (K.told sink.old).faults ≤ (K.told sink.new).faults }
 {
+    let workers = Workers::new(rt, workers);
     for line in lines {
-        put_line(alloc, machine, line, sink)?;
+        put_line(&workers, alloc, machine, line, sink)?;
     }
     Ok(())
 }

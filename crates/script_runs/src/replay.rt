@@ -17,13 +17,15 @@ use crate::report::{
     began_text, delivered_text, dropped_text, edited_text, fit_text, found_text, known_text,
     numbered, published_text, put_number, readed_text, word,
 };
+use crate::workers::Workers;
 use case_order::{NoMemory, Share};
 use merkle_hash::Digest;
 use script_text::{Command, Line};
 use snapshot_hierarchy::Retain;
 use std::alloc::Global;
+use std::thread::Threads;
 use version_hierarchy::Versions;
-use vfs_machine::{Began, Delivered, Machine, Readed, digests_of};
+use vfs_machine::{Began, Delivered, Machine, Readed};
 use vfs_path::Path;
 use world_model::{Edit, Tree};
 
@@ -139,7 +141,8 @@ fn read_line<T: Tree, R: Retain, V: Versions>(
 }
 
 /// The digests of what the scan with the number read; none where it is closed.
-pub(crate) fn scan_digests<T: Tree, R: Retain, V: Versions>(
+pub(crate) fn scan_digests<H: Threads + Sync, T: Tree, R: Retain, V: Versions>(
+    workers: &Workers<H>,
     alloc: Global,
     machine: &Machine<T, R, V>,
     scan: u64,
@@ -150,11 +153,12 @@ pub(crate) fn scan_digests<T: Tree, R: Retain, V: Versions>(
 {
     match machine.contents(scan) {
         None => Ok(Vec::new(alloc)),
-        Some(contents) => digests_of(alloc, contents),
+        Some(contents) => workers.digests(alloc, contents),
     }
 }
 
-fn publish_line<T: Tree, R: Retain, V: Versions>(
+fn publish_line<H: Threads + Sync, T: Tree, R: Retain, V: Versions>(
+    workers: &Workers<H>,
     alloc: Global,
     machine: &mut Machine<T, R, V>,
     caller: u64,
@@ -164,7 +168,7 @@ fn publish_line<T: Tree, R: Retain, V: Versions>(
         (λ s. by_call s (state.CallPublish caller)) text.items) }
     ensures tells { is_some machine.new.content ≡ is_some machine.old.content }
 {
-    let digests = scan_digests(alloc, machine, caller)?;
+    let digests = scan_digests(workers, alloc, machine, caller)?;
     published_text(alloc, machine.publish(caller, digests.as_slice()))
 }
 
@@ -216,7 +220,8 @@ fn with_reads(alloc: Global, mut text: Vec<u8>, reads: u64) -> Result<Vec<u8>, N
 
 /// Reads the scan that was just begun to its end, and publishes it; where a look failed, it stays in
 /// progress.
-fn scan_begun<T: Tree, R: Retain, V: Versions>(
+fn scan_begun<H: Threads + Sync, T: Tree, R: Retain, V: Versions>(
+    workers: &Workers<H>,
     alloc: Global,
     machine: &mut Machine<T, R, V>,
     caller: u64,
@@ -231,11 +236,12 @@ fn scan_begun<T: Tree, R: Retain, V: Versions>(
     let Some(reads) = read_all(machine, caller)? else {
         return word(alloc, b"fault");
     };
-    let text = publish_line(alloc, machine, caller)?;
+    let text = publish_line(workers, alloc, machine, caller)?;
     with_reads(alloc, text, reads)
 }
 
-fn scan_line<T: Tree, R: Retain, V: Versions>(
+fn scan_line<H: Threads + Sync, T: Tree, R: Retain, V: Versions>(
+    workers: &Workers<H>,
     alloc: Global,
     machine: &mut Machine<T, R, V>,
     caller: u64,
@@ -251,7 +257,7 @@ fn scan_line<T: Tree, R: Retain, V: Versions>(
     // The machine's word that what its tree tells is a world, and that it has sixteen scans.
     let _case = machine.case();
     match machine.begin(caller, path) {
-        Began::Version(_) => scan_begun(alloc, machine, caller),
+        Began::Version(_) => scan_begun(workers, alloc, machine, caller),
         Began::AlreadyOpen => word(alloc, b"open"),
         Began::NoMemory => Err(NoMemory),
     }
@@ -293,7 +299,8 @@ fn version_line<T: Tree, R: Retain, V: Versions>(
 /// Runs a command line, and gives what is printed for it, without its line end.
 ///
 /// The only error is want of memory.
-pub(crate) fn run_line<T: Tree, R: Retain, V: Versions + Drop>(
+pub(crate) fn run_line<H: Threads + Sync, T: Tree, R: Retain, V: Versions + Drop>(
+    workers: &Workers<H>,
     alloc: Global,
     machine: &mut Machine<T, R, V>,
     line: &Line,
@@ -314,13 +321,13 @@ pub(crate) fn run_line<T: Tree, R: Retain, V: Versions + Drop>(
         Command::Settle => settle_line(alloc, machine),
         Command::Begin(path) => begin_line(alloc, machine, caller, path),
         Command::Read => read_line(alloc, machine, caller),
-        Command::Publish => publish_line(alloc, machine, caller),
+        Command::Publish => publish_line(workers, alloc, machine, caller),
         Command::Abandon => abandon_line(alloc, machine, caller),
-        Command::Scan(path) => scan_line(alloc, machine, caller, path),
+        Command::Scan(path) => scan_line(workers, alloc, machine, caller, path),
         Command::Find(path) => find_line(alloc, machine, path),
         Command::KindOf(path) => kind_line(alloc, machine, path),
         Command::VersionOf(path) => version_line(alloc, machine, path),
         Command::Print(inputs) => print_line(alloc, machine, inputs.as_slice()),
-        Command::Build(inputs) => build_line(alloc, machine, caller, inputs.as_slice()),
+        Command::Build(inputs) => build_line(workers, alloc, machine, caller, inputs.as_slice()),
     }
 }

@@ -37,7 +37,10 @@ fn puts_the_output_line_of_each_line(rt: HostRuntime) -> Result<(), Fail> {
         caller: 0,
         command: Command::Scan(Path::parse(alloc, b"/d")?),
     }];
-    assert_eq!(rt; run_lines(alloc, &mut machine, &lines, &mut sink), Ok(()));
+    assert_eq!(rt;
+        run_lines(&rt, alloc, 2, &mut machine, &lines, &mut sink),
+        Ok(())
+    );
     assert_eq!(rt; sink.written(), b"ok\nstored reads 1\n".as_slice());
     Ok(())
 }

@@ -1,3 +1,5 @@
 pub mod TakeLemmas
 pub mod WordLemmas
 pub mod RunLemmas
+pub mod GenLemmas
+pub mod CountLemmas

@@ -1,18 +1,52 @@
--- The words of a replay.
-use Rattle.std.proofs.Common.{◌≡◌, ℕ, ◌<◌, ◌≤◌, Bool, List, [], ◌∷◌, length, get_or, sym, ap, subst, ◌∙◌, arith, Decides}
-use Rattle.std.specs.Prelude.{codes, string_bytes, IsTrue, ◌↔◌, String}
+-- The words of the forms.
+use Rattle.std.proofs.Common.{◌≡◌, ℕ, ◌<◌, ◌≤◌, Bool, true, List, [], ◌∷◌, length, map, get_or, sym, ap, ◌∙◌, arith}
+use Rattle.std.specs.Prelude.{codes, string_bytes, String}
 use Rattle.std.specs.Global.{Global}
+use Rattle.std.specs.Fmt.{decimal}
 use Rattle.std.specs.Str.{bytes_eq}
 use Rattle.std.proofs.lemmas.Slice.Eq.{bytes_eq-Decides}
-use Rattle.vfs_tool.specs.Run.{IsReplay}
+use Rattle.std.proofs.lemmas.Fmt.{decimal_injective}
+use Rattle.vfs_tool.specs.Forms.{IsReplay, IsGen}
 
-by_test : (bytes : List ℕ) (b : Bool) → Decides b (bytes ≡ codes "replay") → (IsTrue b → bytes ∷ [] ≡ codes "replay" ∷ []) × (bytes ∷ [] ≡ codes "replay" ∷ [] → IsTrue b)
-by_test bytes b d = (λ h. ap (λ (w : List ℕ). w ∷ []) (d.0 h), λ e. d.1 cc)
+-- the words, by their number and what each is
 
--- one word is that of a replay exactly where its bytes are
-pub one_word : (words : List (String Global)) (w : String Global) (text : List ℕ) (b : Bool) → 1 ≤ length words → length words < 2 → w ≡ get_or words 0 w → text ≡ string_bytes w → b ≡ bytes_eq text (codes "replay") → IsTrue b ↔ IsReplay words
-one_word [] w text b some few e is test = absurd (omega arith)
-one_word (x ∷ []) w text b some few e is test =
-    let same : text ≡ string_bytes x = is ∙ ap (λ (s : String Global). string_bytes s) e in
-    by_test (string_bytes x) b (subst (λ (t : List ℕ). Decides b (t ≡ codes "replay")) same (subst (λ (v : Bool). Decides v (text ≡ codes "replay")) (sym test) (bytes_eq-Decides text (codes "replay"))))
-one_word (x ∷ y ∷ words) w text b some few e is test = absurd (omega arith)
+one_word : (words : List (String Global)) (w : String Global) → 1 ≤ length words → length words < 2 → w ≡ get_or words 0 w → words ≡ w ∷ []
+one_word [] w some few e = absurd (omega arith)
+one_word (x ∷ []) w some few e = ap (λ (s : String Global). s ∷ []) (sym e)
+one_word (x ∷ y ∷ words) w some few e = absurd (omega arith)
+
+two_words : (words : List (String Global)) (v w : String Global) → 2 ≤ length words → length words < 3 → v ≡ get_or words 0 v → w ≡ get_or words 1 w → words ≡ v ∷ w ∷ []
+two_words [] v w some few e f = absurd (omega arith)
+two_words (x ∷ []) v w some few e f = absurd (omega arith)
+two_words (x ∷ y ∷ []) v w some few e f = cc
+two_words (x ∷ y ∷ z ∷ words) v w some few e f = absurd (omega arith)
+
+-- a word is the text that it is compared with
+pub same_text : (text name : List ℕ) (b : Bool) → b ≡ bytes_eq text name → b ≡ true → text ≡ name
+same_text text name b is so = (bytes_eq-Decides text name).0 (sym is ∙ so)
+
+pub one_form : (words : List (String Global)) (w : String Global) (text name : List ℕ) → 1 ≤ length words → length words < 2 → w ≡ get_or words 0 w → text ≡ string_bytes w → text ≡ name → map string_bytes words ≡ name ∷ []
+one_form words w text name some few e is same =
+    ap (λ (ws : List (String Global)). map string_bytes ws) (one_word words w some few e)
+    ∙ ap (λ (t : List ℕ). t ∷ []) (sym is ∙ same)
+
+pub two_forms : (words : List (String Global)) (v w : String Global) (first name second count : List ℕ) → 2 ≤ length words → length words < 3 → v ≡ get_or words 0 v → w ≡ get_or words 1 w → first ≡ string_bytes v → second ≡ string_bytes w → first ≡ name → second ≡ count
+    → map string_bytes words ≡ name ∷ count ∷ []
+two_forms words v w first name second count some few e f is also same number =
+    ap (λ (ws : List (String Global)). map string_bytes ws) (two_words words v w some few e f)
+    ∙ ap (λ (t : List ℕ). t ∷ string_bytes w ∷ []) (sym is ∙ same)
+    ∙ ap (λ (t : List ℕ). name ∷ t ∷ []) (sym also ∙ number)
+
+-- words of a replay are none of `gen N`, and N is told by its words
+
+pub replay_or_gen : (words : List (String Global)) (n : ℕ) → IsReplay words → IsGen n words → ⊥
+replay_or_gen words n is gen = let e = is in let f = gen.2 in cc
+
+same_second : (v : List ℕ) (a b : List ℕ) (words : List (List ℕ)) → words ≡ v ∷ a ∷ [] → words ≡ v ∷ b ∷ [] → a ≡ b
+same_second v a b words e f = cc
+
+pub one_number : (words : List (String Global)) (m n : ℕ) → IsGen m words → IsGen n words → m ≡ n
+one_number words m n g h =
+    let low = g.1 in
+    let high = h.1 in
+    decimal_injective m n (omega arith) (omega arith) (same_second (codes "gen") (decimal m) (decimal n) (map string_bytes words) g.2 h.2)

@@ -1,3 +1,5 @@
 pub mod Statuses
 pub mod Input
 pub mod Run
+pub mod Forms
+pub mod Gen

@@ -1,7 +1,6 @@
 -- What a run took from its source and put into its sink.
-use Rattle.std.specs.Prelude.{◌≡◌, ℕ, List, [], ◌∷◌, take, map, codes, string_bytes, String}
+use Rattle.std.specs.Prelude.{ℕ, List, take}
 use Rattle.std.specs.List.{AllByRecursion as Each}
-use Rattle.std.specs.Global.{Global}
 use Rattle.std.specs.Io.KnownBytes.{Appends}
 use Rattle.vfs_model.specs.Sound.{IsSound}
 use Rattle.vfs_io.specs.Told.{SourceTold, SinkTold, Grows}
@@ -16,10 +15,6 @@ use Rattle.script_runs.specs.States.{states_of}
 use Rattle.script_runs.specs.Shown.{BuildsShow}
 use Rattle.vfs_tool.specs.declared.status.Status.{Status}
 use Rattle.vfs_tool.specs.declared.status.Status.TheVariants.{Done, BadScript, Usage, ReadFault, WriteFault, NoMemory, TooLong}
-
--- the words of a replay
-abbrev pub IsReplay : List (String Global) → Type 0
-IsReplay words = map string_bytes words ≡ codes "replay" ∷ []
 
 -- ---- what was put for a text
 

@@ -1,17 +1,23 @@
 //! `vfs`: replays a script of edits, scans and finds over a tree in memory, and prints a line for
-//! each of its commands.
+//! each of its commands; or makes a script of a given size, and prints one line on its replay.
 //!
-//! `run` is the program as a call: words, a source and a sink in, a status out. `input` takes the
-//! script, `script_reader` reads it, and `script_runs` does its lines and puts what they print.
+//! `run` is the program as a call: words, a source and a sink in, a status out. `forms` tells what
+//! the words ask for. `input` takes the script, `script_reader` reads it, and `script_runs` does its
+//! lines and puts what they print. `generate` runs a script of a given size, which `script_summary`
+//! makes and sums up.
 #![tactic(auto)]
 
+mod forms;
+mod generate;
 mod input;
+pub mod laws;
 mod run;
 mod status;
 
 use status::Status;
 use std::env;
 use std::process::ExitCode;
+use std::thread::Threads;
 use vfs_io::{StdSink, StdSource};
 
 #[cfg(test)]
@@ -23,18 +29,25 @@ fn words(rt: &HostRuntime) -> Option<Vec<String>> {
     args.skip(1).collect(rt.alloc()).ok()
 }
 
-/// Runs the program on the process's own input and output.
-fn run_process(rt: &HostRuntime) -> Status {
+/// Runs the program on the process's own input and output. Only `main` can hand the runtime on as one
+/// that starts threads, so it comes twice.
+fn run_process(rt: &HostRuntime, threads: &(impl Threads + Sync)) -> Status {
     let Some(words) = words(rt) else {
         return Status::Usage;
     };
     let mut source = StdSource::over(rt.stdin());
     let mut sink = StdSink::over(rt.stdout());
-    run::run(rt.alloc(), words.as_slice(), &mut source, &mut sink)
+    run::run(
+        threads,
+        rt.alloc(),
+        words.as_slice(),
+        &mut source,
+        &mut sink,
+    )
 }
 
 fn main(rt: HostRuntime) -> ExitCode {
-    let status = run_process(&rt);
+    let status = run_process(&rt, &rt);
     if status != Status::Done {
         // Nobody is left to be told where standard error takes no text.
         let _ = eprintln!(rt; "{status}");

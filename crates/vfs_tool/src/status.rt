@@ -17,9 +17,10 @@ pub enum Status {
     Usage,
     /// The source's count of faults rose. Nothing was put.
     ReadFault,
-    /// The sink's count of faults rose. A prefix of the report was put.
+    /// The sink's count of faults rose. Lines of the report were put, from the first on, each by a call
+    /// of its own, and a prefix of the next one; of `gen` a prefix of its one line.
     WriteFault,
-    /// Want of memory. Whole lines of the report were put, from the first on.
+    /// Want of memory. Whole lines of the report were put, from the first on; of `gen` nothing.
     NoMemory,
     /// The input has more than 16,777,216 bytes. Nothing was put.
     TooLong,

@@ -6,6 +6,7 @@ use script_reader::{BadLine, Cause};
 use std::alloc::Global;
 use std::process::Abort;
 use std::test::Fail;
+use std::thread::Threads;
 use vfs_io::{MemSink, MemSource, Source};
 use vfs_path::PathError;
 
@@ -31,6 +32,7 @@ fn count_left<S: Source>(source: &mut S) -> usize {
 }
 
 fn run_with(
+    rt: &(impl Threads + Sync),
     alloc: Global,
     words: &[&str],
     script: &[u8],
@@ -43,7 +45,7 @@ fn run_with(
     }
     let mut source = MemSource::over(script.to_vec(alloc)?, source_fails.to_vec(alloc)?);
     let mut sink = MemSink::new(alloc, sink_fails.to_vec(alloc)?);
-    let status = run(alloc, owned.as_slice(), &mut source, &mut sink);
+    let status = run(rt, alloc, owned.as_slice(), &mut source, &mut sink);
     Ok(Ended {
         status,
         written: sink.written().to_vec(alloc)?,
@@ -59,9 +61,13 @@ const STORED_REPORT: &[u8] =
     b"ok\nsettled 1\nversion 1\nsaw /f file left 0\ndone\nstored\nfile 900150983cd24fb0d6963f7d28e17f72\n";
 
 /// Runs each script, and compares what is written.
-fn assert_reports(rt: &impl Abort, alloc: Global, table: &[(&[u8], &[u8])]) -> Result<(), Fail> {
+fn assert_reports(
+    rt: &(impl Abort + Threads + Sync),
+    alloc: Global,
+    table: &[(&[u8], &[u8])],
+) -> Result<(), Fail> {
     for (script, report) in table {
-        let ended = run_with(alloc, &["replay"], script, &[], &[])?;
+        let ended = run_with(rt, alloc, &["replay"], script, &[], &[])?;
         assert_eq!(rt; ended.status, Status::Done);
         assert_eq!(rt; ended.written.as_slice(), *report);
     }
@@ -261,7 +267,7 @@ fn edits_the_tree_or_refuses(rt: HostRuntime) -> Result<(), Fail> {
     for (edit, answer) in edits {
         let script = format!(in alloc; "set file /f a\nset dir /d\nset file /d/x a\n0 {edit}\n")?;
         let report = format!(in alloc; "ok\nok\nok\n{answer}\n")?;
-        let ended = run_with(alloc, &["replay"], script.as_bytes(), &[], &[])?;
+        let ended = run_with(&rt, alloc, &["replay"], script.as_bytes(), &[], &[])?;
         assert_eq!(rt; ended.written.as_slice(), report.as_bytes(), "at {edit}");
     }
     Ok(())
@@ -282,7 +288,7 @@ fn overflows_its_queue(rt: HostRuntime) -> Result<(), Fail> {
     }
     script.extend_from_slice(b"0 deliver\n0 deliver\n")?;
     report.extend_from_slice(b"cleared\nnothing\n")?;
-    let ended = run_with(alloc, &["replay"], script.as_slice(), &[], &[])?;
+    let ended = run_with(&rt, alloc, &["replay"], script.as_slice(), &[], &[])?;
     assert_eq!(rt; ended.status, Status::Done);
     assert!(rt; ended.written.as_slice() == report.as_slice());
     Ok(())
@@ -303,32 +309,47 @@ fn put_directory(
     Ok(())
 }
 
-#[test]
-fn builds_read_what_is_not_retained(rt: HostRuntime) -> Result<(), Fail> {
-    let alloc = rt.alloc();
-    let mut script = Vec::new(alloc);
-    put_directory(alloc, &mut script, "/src", 20)?;
-    put_directory(alloc, &mut script, "/lib", 15)?;
-    put_directory(alloc, &mut script, "/conf", 5)?;
+/// The opening lines of three directories with 40 files, for each of which an `ok` is put, and builds
+/// of all three before and after one of the files is written.
+fn put_builds(alloc: Global, script: &mut Vec<u8>, report: &mut Vec<u8>) -> Result<(), Fail> {
+    put_directory(alloc, script, "/src", 20)?;
+    put_directory(alloc, script, "/lib", 15)?;
+    put_directory(alloc, script, "/conf", 5)?;
     script.extend_from_slice(
         b"0 build rel:/src name:/lib none:/conf\n\
         0 build rel:/src name:/lib none:/conf\n\
         1 write /src/f07 new\n\
         0 build rel:/src name:/lib none:/conf\n",
     )?;
-    let ended = run_with(alloc, &["replay"], script.as_slice(), &[], &[])?;
-    assert_eq!(rt; ended.status, Status::Done);
-    let mut wanted = Vec::new(alloc);
     for _ in 0..43u64 {
-        wanted.extend_from_slice(b"ok\n")?;
+        report.extend_from_slice(b"ok\n")?;
     }
-    wanted.extend_from_slice(
+    report.extend_from_slice(
         b"build a37dd30f6db0ff14b51027427c263b05 hits 0 misses 3 reads 43\n\
         build a37dd30f6db0ff14b51027427c263b05 hits 3 misses 0 reads 0\n\
         ok\n\
         build c99fbd57fdd6d48ac455b8a2d092d0e8 hits 2 misses 1 reads 21\n",
     )?;
-    assert_eq!(rt; ended.written.as_slice(), wanted.as_slice());
+    Ok(())
+}
+
+#[test]
+fn builds_the_same_by_any_number_of_workers(rt: HostRuntime) -> Result<(), Fail> {
+    let alloc = rt.alloc();
+    let settings: [(&[u8], &[u8]); 4] = [
+        (b"", b""),
+        (b"set workers 2\n", b"ok\n"),
+        (b"set workers 7\n", b"ok\n"),
+        (b"set workers 16\n", b"ok\n"),
+    ];
+    for (setting, answer) in settings {
+        let mut script = Vec::from_slice(alloc, setting)?;
+        let mut wanted = Vec::from_slice(alloc, answer)?;
+        put_builds(alloc, &mut script, &mut wanted)?;
+        let ended = run_with(&rt, alloc, &["replay"], script.as_slice(), &[], &[])?;
+        assert_eq!(rt; ended.status, Status::Done);
+        assert_eq!(rt; ended.written.as_slice(), wanted.as_slice());
+    }
     Ok(())
 }
 
@@ -359,17 +380,73 @@ fn keeps_fingerprints_until_something_related_is_delivered(rt: HostRuntime) -> R
     assert_reports(&rt, rt.alloc(), &table)
 }
 
+/// Runs `gen N` over a source that is to be left alone, and compares what is written.
+fn assert_summary(
+    rt: &(impl Abort + Threads + Sync),
+    alloc: Global,
+    count: &str,
+    line: &[u8],
+) -> Result<(), Fail> {
+    let ended = run_with(rt, alloc, &["gen", count], STORED, &[], &[])?;
+    assert_eq!(rt; ended.status, Status::Done);
+    assert_eq!(rt; ended.written.as_slice(), line);
+    assert_eq!(rt; ended.left, STORED.len());
+    Ok(())
+}
+
+#[test]
+fn sums_up_a_generated_script(rt: HostRuntime) -> Result<(), Fail> {
+    let alloc = rt.alloc();
+    let line =
+        b"lines 13 hits 2 misses 4 reads 38 md5 8348650a12cc3f5e0a1dfcb5576044b9\n".as_slice();
+    assert_summary(&rt, alloc, "1", line)?;
+    assert_summary(
+        &rt,
+        alloc,
+        "10",
+        b"lines 94 hits 2 misses 4 reads 200 md5 954dfc0d0f306faeb440b226ad914429\n",
+    )?;
+    // The line is put by the first call of the sink, and there is no second one. A source that fails is
+    // not asked.
+    let ended = run_with(&rt, alloc, &["gen", "1"], STORED, &[], &[1])?;
+    assert_eq!(rt; ended.status, Status::WriteFault);
+    assert_eq!(rt; ended.written.len(), 0);
+    let ended = run_with(&rt, alloc, &["gen", "1"], STORED, &[1], &[2])?;
+    assert_eq!(rt; ended.status, Status::Done);
+    assert_eq!(rt; ended.written.as_slice(), line);
+    Ok(())
+}
+
+#[test]
+fn sums_up_the_largest_script(rt: HostRuntime) -> Result<(), Fail> {
+    assert_summary(
+        &rt,
+        rt.alloc(),
+        "1000",
+        b"lines 9004 hits 2 misses 4 reads 18020 md5 9b83be7fa24139494877ba1cbc66e51d\n",
+    )
+}
+
 #[test]
 fn refuses_other_words(rt: HostRuntime) -> Result<(), Fail> {
-    let table: [&[&str]; 5] = [
+    let table: [&[&str]; 14] = [
         &[],
         &["replay", "x"],
+        &["gen"],
         &["gen", "0"],
+        &["gen", "01"],
+        &["gen", "1001"],
+        &["gen", "1", "2"],
+        &["gen", "+1"],
+        &["gen", ""],
+        &["gen", "1x"],
+        &["gen", "18446744073709551617"],
+        &["1"],
         &["--help"],
         &["Replay"],
     ];
     for words in table {
-        let ended = run_with(rt.alloc(), words, STORED, &[], &[])?;
+        let ended = run_with(&rt, rt.alloc(), words, STORED, &[], &[])?;
         assert_eq!(rt; ended.status, Status::Usage);
         assert_eq!(rt; ended.left, STORED.len());
         assert_eq!(rt; ended.written.len(), 0);
@@ -382,7 +459,7 @@ fn tells_what_stopped_it(rt: HostRuntime) -> Result<(), Fail> {
     let alloc = rt.alloc();
     // A source that fails at once, and one that fails once the script is taken.
     for fails in [1, 2] {
-        let ended = run_with(alloc, &["replay"], STORED, &[fails], &[])?;
+        let ended = run_with(&rt, alloc, &["replay"], STORED, &[fails], &[])?;
         assert_eq!(rt; ended.status, Status::ReadFault);
         assert_eq!(rt; ended.written.len(), 0);
     }
@@ -401,7 +478,7 @@ fn tells_what_stopped_it(rt: HostRuntime) -> Result<(), Fail> {
         (deep.as_slice(), 1, Cause::BadPath(PathError::TooDeep)),
     ];
     for (script, line, cause) in table {
-        let ended = run_with(alloc, &["replay"], script, &[], &[])?;
+        let ended = run_with(&rt, alloc, &["replay"], script, &[], &[])?;
         assert_eq!(rt; ended.status, Status::BadScript(BadLine { line, cause }));
         assert_eq!(rt; ended.written.len(), 0);
     }
@@ -422,13 +499,13 @@ fn puts_each_line_by_a_call_of_its_own(rt: HostRuntime) -> Result<(), Fail> {
     ];
     let mut before = Vec::new(alloc);
     for (put, line) in lines {
-        let ended = run_with(alloc, &["replay"], STORED, &[], &[put])?;
+        let ended = run_with(&rt, alloc, &["replay"], STORED, &[], &[put])?;
         assert_eq!(rt; ended.status, Status::WriteFault);
         assert_eq!(rt; ended.written.as_slice(), before.as_slice());
         before.extend_from_slice(line)?;
     }
     // No eighth put is made.
-    let ended = run_with(alloc, &["replay"], STORED, &[], &[8])?;
+    let ended = run_with(&rt, alloc, &["replay"], STORED, &[], &[8])?;
     assert_eq!(rt; ended.status, Status::Done);
     assert_eq!(rt; ended.written.as_slice(), before.as_slice());
     Ok(())
@@ -445,7 +522,7 @@ fn takes_one_byte_past_its_limit(rt: HostRuntime) -> Result<(), Fail> {
         (16_777_218, Status::TooLong, 1),
     ] {
         let script = vec![in alloc; b'\n'; len]?;
-        let ended = run_with(alloc, &["replay"], script.as_slice(), &[], &[])?;
+        let ended = run_with(&rt, alloc, &["replay"], script.as_slice(), &[], &[])?;
         assert_eq!(rt; ended.status, status);
         assert_eq!(rt; ended.left, left);
         assert_eq!(rt; ended.written.len(), 0);

@@ -5,7 +5,7 @@ use Rattle.script_runs.proofs.BuildRunLemmas.{settled-closed, closed-built}
 use Rattle.script_runs.proofs.build.build_line.Goals as goal
 
 pub take_inputs-requires-clause-closed : goal.take_inputs-requires-clause-closed
-take_inputs-requires-clause-closed g c =
+take_inputs-requires-clause-closed g c _ _ =
     settled-closed g.V.Versions.version g.V.Versions.count c.args.machine.now c.settle.new.machine c.args.caller c.in_ok-_delivered._delivered c.case-case.ensures.sound (sym c.scanning.ensures.running ∙ c.if-scanning.false) c.in_ok-_delivered.ensures.settled
 
 pub returns-in-Some-clause-printed : goal.returns-in-Some-clause-printed

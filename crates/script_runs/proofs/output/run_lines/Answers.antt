@@ -1,4 +1,4 @@
-use Rattle.std.proofs.Common.{suc, ◌+◌, ◌-◌, ◌<◌, List, ◌∷◌, [], length, take, drop, sym, subst, arith}
+use Rattle.std.proofs.Common.{suc, ◌+◌, ◌-◌, ◌<◌, List, ◌∷◌, [], length, take, drop, sym, subst, arith, rules}
 use Rattle.std.proofs.lemmas.Result.{err_from_is_err_and}
 use Rattle.script_text.specs.declared.script.Line.{Line}
 use Rattle.vfs_model.specs.Stands.{Stands}
@@ -12,12 +12,13 @@ use Rattle.script_runs.proofs.output.run_lines.Goals as goal
 
 pub put_line-requires : goal.put_line-requires
 put_line-requires g c =
-    let here : c.loop-line.line-index < length c.args.lines.now = c.loop-line-test.true in
-    record {
-      line = Each-get CanRun c.args.lines.now c.loop-line.line-index c.line-item.result c.requires.lines here c.line-item.is;
-      ready = ready-less _ _ _ _ 1 (omega arith) c.loop-line.invariant.ready;
-      faultless = c.requires.faultless;
-    }
+    let here : c.loop-line.line-index < length c.args.lines.now = c.loop-line-test.true in (
+      search rules,
+      (
+        Each-get CanRun c.args.lines.now c.loop-line.line-index c.line-item.result c.requires.lines here c.line-item.is,
+        (ready-less _ _ _ _ 1 (omega arith) c.loop-line.invariant.ready, c.requires.faultless),
+      ),
+    )
 
 pub loop-line-init : goal.loop-line-init
 loop-line-init g c = record {

@@ -1,9 +1,28 @@
 use Rattle.std.proofs.Common.{List, ℕ, subst}
-use Rattle.script_text.specs.declared.script.TextKind.TheVariants.{Replay}
+use Rattle.script_text.specs.declared.script.TextKind.TheVariants as kinds
 use Rattle.script_reader.specs.Faults.{FirstBad}
+use Rattle.vfs_tool.specs.declared.forms.Form.{Form}
+use Rattle.vfs_tool.specs.declared.forms.Form.TheVariants.{Replay, Gen}
+use Rattle.vfs_tool.specs.Forms.{IsGen, IsForm}
+use Rattle.vfs_tool.specs.Gen.{GenEnds}
+use Rattle.vfs_tool.proofs.WordLemmas.{one_number}
 use Rattle.vfs_tool.proofs.run.run.Goals as goal
 
 pub returns-in-Ok-clause-bad : goal.returns-in-Ok-clause-bad
 returns-in-Ok-clause-bad g c = λ b e.
     let r = c.run_text.ensures.bad b e in
-    ((c.in-Ok.text.items, c.in-Ok.ensures.ok, subst (λ (t : List ℕ). FirstBad Replay t b) c.as_slice.ensures.value r.0), r.1)
+    ((c.in-Ok.text.items, c.in-Ok.ensures.ok, subst (λ (t : List ℕ). FirstBad kinds.Replay t b) c.as_slice.ensures.value r.0), r.1)
+
+-- words of no form are those of none
+pub returns-in-None-clause-complete : goal.returns-in-None-clause-complete
+returns-in-None-clause-complete g c = λ is. absurd (c.form_of.ensures.missed c.in-None.is Replay is)
+
+pub returns-in-None-clause-generated : goal.returns-in-None-clause-generated
+returns-in-None-clause-generated g c = λ n is. c.form_of.ensures.missed c.in-None.is (Gen n) is
+
+-- the number that was found is the one that the words tell
+pub returns-in-Some-Gen-clause-generated : goal.returns-in-Some-Gen-clause-generated
+returns-in-Some-Gen-clause-generated g c = λ n is.
+    let found : IsGen c.in-Some-Gen.directories c.args.words.now = subst (λ (f : Form). IsForm f c.args.words.now) c.in-Some-Gen.field-0-is c.in-Some-Gen.ensures.found in
+    subst (λ (k : ℕ). GenEnds k (g.K.Sink.told c.args.sink.now) (g.K.Sink.told c.run_gen.new.sink) c.run_gen.result)
+    (one_number c.args.words.now c.in-Some-Gen.directories n found is) c.run_gen.ensures.ends

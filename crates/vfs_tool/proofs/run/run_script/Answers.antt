@@ -10,7 +10,7 @@ use Rattle.vfs_tool.proofs.RunLemmas.{told_by, holds-empty, all-put, broke-late,
 use Rattle.vfs_tool.proofs.run.run_script.Goals as goal
 
 pub run_commands-requires-clause-case : goal.run_commands-requires-clause-case
-run_commands-requires-clause-case g c =
+run_commands-requires-clause-case g c _ _ =
     let case = c.args.script.now.settings.case in
     (c.in_ok-put_openings.ensures.ok case empty_world (holds-empty case c.new-tree.result c.new-tree.ensures)).1.under
 
