@@ -16,8 +16,11 @@ fn order_of(a: &FpEntry, b: &FpEntry) -> Ordering
     ensures { result ≡ entry_order (entry_of a.now) (entry_of b.now) }
 {
     let paths = a.path.as_slice().cmp(b.path.as_slice());
+    if paths.is_ne() {
+        return paths;
+    }
     let kinds = kind_byte(a.kind).cmp(&kind_byte(b.kind));
-    paths.then(kinds.then(digest_order(a.digest, b.digest)))
+    kinds.then(digest_order(a.digest, b.digest))
 }
 
 /// What has no digest comes first.

@@ -5,9 +5,9 @@
 ghost use Rattle.std.specs.Prelude.{◌≡◌, ◌<◌, ◌∷◌, [], ◌++◌, length, map, IfOk, OnOk};
 ghost use Rattle.std.specs.List.{range_with_len};
 ghost use Rattle.std.specs.Fmt.{decimal};
-ghost use Rattle.script_summary.specs.Generated.{directory_at, file_at, content_at, mkdir_line, file_line, new_line, build_line, directory_lines, build_lines, generated};
+ghost use Rattle.script_summary.specs.Generated.{directory_at, content_at, file_line, new_line, build_line, directory_lines, build_lines, generated};
 
-use case_order::NoMemory;
+use case_order::{NoMemory, Share};
 use fingerprint_norms::{Input, Inputs, Sensitivity};
 use merkle_hash::Bytes;
 use script_text::{Command, Line, Lines, Openings, Script, Settings};
@@ -50,13 +50,6 @@ fn directory_path(alloc: Global, directory: u64) -> Result<Path, NoMemory>
     numbered_child(alloc, &Path::root(), b'd', directory)
 }
 
-fn file_path(alloc: Global, directory: u64, file: u64) -> Result<Path, NoMemory>
-    ensures { IfOk result (λ path. path ≡ file_at directory file) }
-{
-    let parent = directory_path(alloc, directory)?;
-    numbered_child(alloc, &parent, b'f', file)
-}
-
 /// What a file holds at first: both numbers, with a dot between them.
 fn content(alloc: Global, directory: u64, file: u64) -> Result<Vec<u8>, NoMemory>
     ensures { IfOk result (λ bytes. bytes.items ≡ content_at directory file) }
@@ -73,11 +66,10 @@ fn line(command: Command) -> Line
 }
 
 /// The line that makes a directory.
-fn mkdir_line(alloc: Global, directory: u64) -> Result<Line, NoMemory>
-    ensures { IfOk result (λ line. line ≡ mkdir_line directory) }
+fn mkdir_line(path: &Path) -> Result<Line, NoMemory>
+    ensures { IfOk result (λ line. line ≡ record { caller = 0; command = Command.Edit (Edit.Mkdir path.now) }) }
 {
-    let path = directory_path(alloc, directory)?;
-    Ok(line(Command::Edit(Edit::Mkdir(path))))
+    Ok(line(Command::Edit(Edit::Mkdir(path.share()?))))
 }
 
 /// A line that writes a file.
@@ -90,11 +82,12 @@ fn write_line(alloc: Global, path: Path, content: Vec<u8>) -> Result<Line, NoMem
     }
 }
 
-/// The line that writes a file of a directory.
-fn file_line(alloc: Global, directory: u64, file: u64) -> Result<Line, NoMemory>
+/// The line that writes a file of the directory that is at this path.
+fn file_line(alloc: Global, path: &Path, directory: u64, file: u64) -> Result<Line, NoMemory>
+    requires { path.now ≡ directory_at directory }
     ensures { IfOk result (λ line. line ≡ file_line directory file) }
 {
-    let path = file_path(alloc, directory, file)?;
+    let path = numbered_child(alloc, path, b'f', file)?;
     let content = content(alloc, directory, file)?;
     write_line(alloc, path, content)
 }
@@ -103,7 +96,8 @@ fn file_line(alloc: Global, directory: u64, file: u64) -> Result<Line, NoMemory>
 fn new_line(alloc: Global) -> Result<Line, NoMemory>
     ensures { IfOk result (λ line. line ≡ new_line) }
 {
-    let path = file_path(alloc, 0, 0)?;
+    let directory = directory_path(alloc, 0)?;
+    let path = numbered_child(alloc, &directory, b'f', 0)?;
     write_line(alloc, path, Vec::from_slice(alloc, b"new")?)
 }
 
@@ -123,13 +117,20 @@ fn build_line(alloc: Global) -> Result<Line, NoMemory>
     Ok(line(Command::Build(Inputs::from_vec(inputs))))
 }
 
-/// The lines that write the files of a directory.
-fn push_files(alloc: Global, lines: &mut Lines, directory: u64, count: u64) -> Result<(), NoMemory>
+/// The lines that write the files of the directory that is at this path.
+fn push_files(
+    alloc: Global,
+    lines: &mut Lines,
+    path: &Path,
+    directory: u64,
+    count: u64,
+) -> Result<(), NoMemory>
+    requires { path.now ≡ directory_at directory }
     ensures { OnOk result
         (lines.new ≡ lines.old ++ map (file_line directory) (range_with_len 0 count)) }
 {
     for file in 0..count {
-        lines.push(file_line(alloc, directory, file)?)?;
+        lines.push(file_line(alloc, path, directory, file)?)?;
     }
     Ok(())
 }
@@ -138,8 +139,9 @@ fn push_files(alloc: Global, lines: &mut Lines, directory: u64, count: u64) -> R
 fn push_directory(alloc: Global, lines: &mut Lines, directory: u64) -> Result<(), NoMemory>
     ensures { OnOk result (lines.new ≡ lines.old ++ directory_lines directory) }
 {
-    lines.push(mkdir_line(alloc, directory)?)?;
-    push_files(alloc, lines, directory, FILES)
+    let path = directory_path(alloc, directory)?;
+    lines.push(mkdir_line(&path)?)?;
+    push_files(alloc, lines, &path, directory, FILES)
 }
 
 /// The lines that build and write once more.

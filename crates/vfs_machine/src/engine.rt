@@ -1,6 +1,6 @@
 //! The engine: the parts of a machine, each of whose calls is the model's step.
 
-ghost use Rattle.std.specs.Prelude.{◌≡◌, ◌<◌, ◌≤◌, ◌^◌, ◌+◌, Some, None, [], ◌∷◌, true, false, IfOk, IfErr, IfSome, IsTrue, OnErr, ◌↔◌, ℕ, length, is_some, map, option_map, replicate};
+ghost use Rattle.std.specs.Prelude.{◌≡◌, ◌<◌, ◌≤◌, ◌^◌, ◌+◌, ◌⊎◌, Some, None, [], ◌∷◌, true, false, IfOk, IfErr, IfSome, IsTrue, OnErr, ◌↔◌, ℕ, length, is_some, map, option_map, replicate};
 ghost use Rattle.std.specs.Option.{option_copied};
 ghost use Rattle.vfs_model.specs.Paths as paths;
 ghost use Rattle.vfs_model.specs.Pending as pending;
@@ -15,6 +15,8 @@ ghost use Rattle.vfs_model.specs.Stands.{Stands};
 ghost use Rattle.snapshot_tree.specs.Meaning.{meaning_of, glance_of};
 ghost use Rattle.world_model.specs.Meaning.{edit_of, events_of, look_seen};
 ghost use Rattle.world_model.specs.Told.{with_answers};
+ghost use Rattle.world_model.specs.declared.edit.EditError.TheVariants as edit_error;
+ghost use Rattle.vfs_machine.specs.declared.answers.Edited.TheVariants as edited;
 ghost use Rattle.vfs_machine.specs.declared.answers.Readed.TheVariants as readed;
 ghost use Rattle.scan_walk.specs.Cased.{CasedScan, IsUnder, cased_at, running_of};
 ghost use Rattle.scan_walk.specs.Scans.{running_at, AreDigests, AreContentsOf, IsDone, IsShapedRunning};
@@ -111,12 +113,16 @@ impl<T: Tree, R: Retain, V: Versions> Engine<T, R, V> {
 
     /// Edits the tree; the events of the edit are queued in the same step.
     ///
-    /// `Overflow` comes exactly where an event did not fit, `Refused` as the tree refuses.
+    /// `Overflow` comes exactly where an event did not fit, `Refused` as the tree refuses: a tree that
+    /// is read only refuses every edit with `ReadOnly`, and no other tree does.
     pub(crate) fn edit(&mut self, edit: &Edit) -> Edited
         ensures step { IsStepOf V.version V.count self.old self.new
             (edit_answers (edit_of edit.now) result) (state.CallEdit (edit_of edit.now)) (edited_reply result) }
         ensures due { (w : World) → self.old.content ≡ Some w → (s : state.State) → Stands V.version V.count self.old s
             → state.AreDue s (state.CallEdit (edit_of edit.now)) (edit_answers (edit_of edit.now) result) }
+        ensures read_only { T.takes_no_edits ≡ true
+            → (result ≡ edited.Refused edit_error.ReadOnly) ⊎ (result ≡ edited.NoMemory) }
+        ensures editable { result ≡ edited.Refused edit_error.ReadOnly → T.takes_no_edits ≡ true }
         ensures tells { is_some self.new.content ≡ is_some self.old.content }
         ensures faults { self.old.faults ≤ self.new.faults }
         ensures answered { self.new.answers

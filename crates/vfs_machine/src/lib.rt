@@ -2,7 +2,6 @@
 #![tactic(auto)]
 
 mod answers;
-mod digests;
 mod engine;
 mod machine;
 mod roots;
@@ -10,5 +9,4 @@ mod roots;
 mod tests;
 
 pub use answers::{Answer, Began, Delivered, Edited, Printed, Readed};
-pub use digests::digests_of;
 pub use machine::Machine;

@@ -1,6 +1,6 @@
 //! The machine.
 
-ghost use Rattle.std.specs.Prelude.{◌≡◌, ◌<◌, ◌≤◌, ◌^◌, ◌+◌, Some, [], false, List, ℕ, IfOk, IfErr, IfSome, IsTrue, ◌↔◌, length, is_some, map, option_map};
+ghost use Rattle.std.specs.Prelude.{◌≡◌, ◌<◌, ◌≤◌, ◌^◌, ◌+◌, ◌⊎◌, Some, [], true, false, List, ℕ, IfOk, IfErr, IfSome, IsTrue, ◌↔◌, length, is_some, map, option_map};
 ghost use Rattle.std.specs.Option.{option_copied};
 ghost use Rattle.vfs_model.specs.Paths as paths;
 ghost use Rattle.vfs_model.specs.Pending as pending;
@@ -16,6 +16,8 @@ ghost use Rattle.snapshot_tree.specs.Meaning.{meaning_of, glance_of};
 ghost use Rattle.snapshot_hierarchy.specs.Held.{nothing};
 ghost use Rattle.world_model.specs.Meaning.{edit_of};
 ghost use Rattle.world_model.specs.Told.{with_answers};
+ghost use Rattle.world_model.specs.declared.edit.EditError.TheVariants as edit_error;
+ghost use Rattle.vfs_machine.specs.declared.answers.Edited.TheVariants as edited;
 ghost use Rattle.vfs_machine.specs.declared.answers.Readed.TheVariants as readed;
 ghost use Rattle.scan_walk.specs.Scans.{running_at, AreDigests, IsShapedRunning};
 ghost use Rattle.vfs_machine.specs.Deliveries.{Counts};
@@ -102,7 +104,8 @@ impl<T: Tree, R: Retain, V: Versions> Machine<T, R, V> {
     /// Edits the tree; the events of the edit are queued in the same step.
     ///
     /// `Overflow` comes exactly where an event did not fit, `Refused` as the tree refuses, and
-    /// `NoMemory`, where the tree tells its content, only where nothing is refused.
+    /// `NoMemory`, where the tree tells its content, only where nothing is refused. A tree that is
+    /// read only refuses every edit with `ReadOnly`, and no other tree does.
     pub fn edit(&mut self, edit: &Edit) -> Edited
         ensures step { IsStepOf V.version V.count self.old self.new
             (edit_answers (edit_of edit.now) result) (state.CallEdit (edit_of edit.now)) (edited_reply result) }
@@ -110,6 +113,9 @@ impl<T: Tree, R: Retain, V: Versions> Machine<T, R, V> {
             (state.CallEdit (edit_of edit.now)) (edited_reply result) }
         ensures last { (w : World) → self.old.content ≡ Some w
             → IsMemoryLast V.version V.count self.old (λ s. state.told_step s (state.CallEdit (edit_of edit.now))) (edited_reply result) }
+        ensures read_only { T.takes_no_edits ≡ true
+            → (result ≡ edited.Refused edit_error.ReadOnly) ⊎ (result ≡ edited.NoMemory) }
+        ensures editable { result ≡ edited.Refused edit_error.ReadOnly → T.takes_no_edits ≡ true }
         ensures tells { is_some self.new.content ≡ is_some self.old.content }
         ensures faults { self.old.faults ≤ self.new.faults }
         ensures answered { self.new.answers

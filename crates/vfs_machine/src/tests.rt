@@ -1,9 +1,10 @@
 //! Scans of a tree in memory, from the edit to what is retained, and events that are lost.
 
-ghost use Rattle.std.specs.Prelude.{◌≡◌, ◌<◌, ◌≤◌, ◌+◌, ◌^◌, IfOk, OnOk, length};
+ghost use Rattle.std.specs.Prelude.{◌≡◌, ◌<◌, ◌≤◌, ◌+◌, ◌^◌, IfOk, OnOk, length, map};
+ghost use Rattle.vfs_model.specs.World.{digest_of_bytes};
 ghost use Rattle.scan_walk.specs.Scans.{running_at, AreDigests};
 
-use crate::{Answer, Began, Delivered, Edited, Machine, Readed, digests_of};
+use crate::{Answer, Began, Delivered, Edited, Machine, Readed};
 use case_order::{Case, NoMemory};
 use merkle_hash::{Bytes, Digest, file_digest};
 use snapshot_hierarchy::{FlatRetain, Retain};
@@ -63,6 +64,17 @@ fn make_directory<T: Tree, R: Retain, V: Versions>(
     assert_eq!(rt; machine.edit(&write(alloc, "/d/a", "a")?), Edited::Done);
     assert_eq!(rt; machine.edit(&write(alloc, "/d/b", "b")?), Edited::Done);
     Ok(())
+}
+
+/// The digests of the contents.
+fn digests_of(alloc: Global, contents: &[Bytes]) -> Result<Vec<Digest>, NoMemory>
+    ensures { IfOk result (λ digests. digests.items ≡ map digest_of_bytes contents.now) }
+{
+    let mut digests = Vec::new(alloc);
+    for bytes in contents {
+        digests.push(file_digest(bytes.as_slice()))?;
+    }
+    Ok(digests)
 }
 
 /// The digests of what the scan with the number read; none where it is closed.

@@ -4,3 +4,5 @@ pub mod EntriesLemmas
 pub mod EditedLemmas
 pub mod RefusalLemmas
 pub mod LookLemmas
+pub mod CaseLemmas
+pub mod Walks

@@ -1,5 +1,5 @@
 -- A search among children in order, and the lists that a change makes.
-use Rattle.std.proofs.Common.{◌≡◌, ℕ, zero, suc, ◌+◌, ◌<◌, ◌≤◌, true, false, cond, List, [], ◌∷◌, ◌++◌, length, take, drop, map, get_or, Some, None, refl, sym, ap, ◌∙◌, subst, arith, Result, Ok, Err, MatchResult, add-one, add-zero, append_assoc, append-nil}
+use Rattle.std.proofs.Common.{◌≡◌, ℕ, zero, suc, ◌+◌, ◌-◌, ◌<◌, ◌≤◌, true, false, cond, List, [], ◌∷◌, ◌++◌, length, take, drop, set, map, get_or, Some, None, refl, sym, ap, ◌∙◌, subst, arith, Result, Ok, Err, MatchResult}
 use Rattle.std.proofs.lemmas.Bool.{false_from_ne_true}
 use Rattle.std.proofs.lemmas.List.{take_all}
 use Rattle.std.proofs.lemmas.List.Sorted.{searchable_from_sorted}
@@ -10,11 +10,11 @@ use Rattle.std.specs.List.Sorted.{IsSearchInRange, IsBinarySearchResult}
 use Rattle.std.specs.declared.cmp.Ordering.TheVariants.{Less, Equal, Greater}
 use Rattle.case_order.proofs.OrderLemmas.{name_order-total}
 use Rattle.vfs_model.specs.declared.Case.{Case}
-use Rattle.vfs_model.specs.Paths.{Name, folded_name, is_same_name, name_order}
+use Rattle.vfs_model.specs.Paths.{Name, Path, folded_name, place, is_same_name, name_order}
 use Rattle.vfs_model.specs.World.{AreInOrder}
 use Rattle.vfs_laws.proofs.PathLemmas.{same_name-refl, same_name-true}
 use Rattle.vfs_laws.proofs.NameLemmas.{order-equal, order-same, order-flip, each-weaker}
-use Rattle.world_model.specs.FileTree.{FileTree, Children, NoChildren, WithChild, Named, names_of, child, put, without, IsOrdered, AreOrdered}
+use Rattle.world_model.specs.FileTree.{FileTree, Leaf, Branch, Children, NoChildren, WithChild, Named, names_of, child, put, without, put_changed, with_changed, changed, IsOrdered, AreOrdered}
 use Rattle.world_model.specs.declared.node.Child.{Child}
 use Rattle.world_model.specs.declared.node.Change.{Change}
 use Rattle.world_model.specs.declared.node.Change.TheVariants.{Put, Take}
@@ -211,35 +211,85 @@ gap-without case cs n i h =
 
 -- ---- what a change makes of the list
 
--- the list with a child in the place of another
-pub changed-here : (case : Case) (cs : List Child) (self : Children) (change : Change) (new : Child) (i : ℕ) → children_of cs ≡ self → change ≡ Put new → IsHere case cs new.name i
-    → children_of ((take i cs ++ new ∷ []) ++ drop (i + 1) cs) ≡ after_change case change self
-changed-here case cs self change new i is put_is h =
-    ap children_of (append_assoc (take i cs) (new ∷ []) (drop (i + 1) cs) ∙ ap (λ j. take i cs ++ new ∷ drop j cs) (add-one i))
+-- a list with another child at the index
+set-parts : (cs : List Child) (i : ℕ) (new : Child) → i < length cs → set cs i new ≡ take i cs ++ new ∷ drop (suc i) cs
+set-parts [] i new h = absurd (omega arith)
+set-parts (c ∷ cs) zero new h = refl
+set-parts (c ∷ cs) (suc i) new h = ap (λ more. c ∷ more) (set-parts cs i new (omega arith))
+
+-- a child is put in the place of another
+pub changed-here : (case : Case) (cs ds : List Child) (change : Change) (new : Child) (i : ℕ) → change ≡ Put new → IsHere case cs new.name i → ds ≡ set cs i new → children_of ds ≡ after_change case change (children_of cs)
+changed-here case cs ds change new i put_is h is =
+    ap children_of (is ∙ set-parts cs i new h.within)
     ∙ sym (here-put case cs new i h)
-    ∙ (λ j. after_change case (sym put_is j) (is j))
+    ∙ ap (λ f. after_change case f (children_of cs)) (sym put_is)
 
--- the list with a child more
-pub changed-gap : (case : Case) (cs : List Child) (self : Children) (change : Change) (new : Child) (i : ℕ) → children_of cs ≡ self → change ≡ Put new → IsGap case cs new.name i
-    → children_of ((take i cs ++ new ∷ []) ++ drop (i + 0) cs) ≡ after_change case change self
-changed-gap case cs self change new i is put_is h =
-    ap children_of (append_assoc (take i cs) (new ∷ []) (drop (i + 0) cs) ∙ ap (λ j. take i cs ++ new ∷ drop j cs) (add-zero i))
+-- a child is put into the gap
+pub changed-gap : (case : Case) (cs ds : List Child) (change : Change) (new : Child) (i : ℕ) → change ≡ Put new → IsGap case cs new.name i → ds ≡ take i cs ++ new ∷ drop i cs → children_of ds ≡ after_change case change (children_of cs)
+changed-gap case cs ds change new i put_is h is =
+    ap children_of is
     ∙ sym (gap-put case cs new i h)
-    ∙ (λ j. after_change case (sym put_is j) (is j))
+    ∙ ap (λ f. after_change case f (children_of cs)) (sym put_is)
 
--- the list with a child less
-pub taken-here : (case : Case) (cs : List Child) (self : Children) (change : Change) (n : Name) (i : ℕ) → children_of cs ≡ self → change ≡ Take n → AreInOrder case (names_of self) → IsHere case cs n i
-    → children_of ((take i cs ++ []) ++ drop (i + 1) cs) ≡ after_change case change self
-taken-here case [] self change n i is take_is order h = absurd (let l = h.within in omega arith)
-taken-here case (c ∷ cs) self change n i is take_is order h =
-    ap children_of ((λ j. append-nil (take i (c ∷ cs)) j ++ drop (add-one i j) (c ∷ cs)))
-    ∙ sym (here-without case (c ∷ cs) n i c (subst (λ (s : Children). AreInOrder case (names_of s)) (sym is) order) h)
-    ∙ (λ j. after_change case (sym take_is j) (is j))
+-- a child is taken away
+pub taken-here : (case : Case) (cs ds : List Child) (change : Change) (n : Name) (i : ℕ) → change ≡ Take n → AreInOrder case (names_of (children_of cs)) → IsHere case cs n i → ds ≡ take i cs ++ drop (suc i) cs → children_of ds ≡ after_change case change (children_of cs)
+taken-here case [] ds change n i take_is order h is = absurd (let l = h.within in omega arith)
+taken-here case (c ∷ cs) ds change n i take_is order h is =
+    ap children_of is
+    ∙ sym (here-without case (c ∷ cs) n i c order h)
+    ∙ ap (λ f. after_change case f (children_of (c ∷ cs))) (sym take_is)
 
--- the list as it was
-pub taken-gap : (case : Case) (cs : List Child) (self : Children) (change : Change) (n : Name) (i : ℕ) → children_of cs ≡ self → change ≡ Take n → IsGap case cs n i → self ≡ after_change case change self
-taken-gap case cs self change n i is take_is h =
-    sym is ∙ sym (gap-without case cs n i h) ∙ (λ j. after_change case (sym take_is j) (is j))
+-- no child has the name that is to be taken away
+pub taken-gap : (case : Case) (cs : List Child) (change : Change) (n : Name) (i : ℕ) → change ≡ Take n → IsGap case cs n i → children_of cs ≡ after_change case change (children_of cs)
+taken-gap case cs change n i take_is h =
+    sym (gap-without case cs n i h) ∙ ap (λ f. after_change case f (children_of cs)) (sym take_is)
+
+-- what is found by a name is found by the name that it has
+here-own : (case : Case) (cs : List Child) (n : Name) (i : ℕ) (d : Child) → IsHere case cs n i → d ≡ get_or cs i d → IsHere case cs d.name i
+here-own case cs n i d h at = record {
+  within = h.within;
+  before = each-weaker _ _ (λ (c : Child) l. less-same case c.name n d.name l (order-same case n d.name (sym own))) (take i cs) h.before;
+  same = λ e. order-same case (get_or cs i e).name d.name (order-equal case (get_or cs i e).name n (h.same e) ∙ sym own);
+}
+  where
+    own : folded_name case d.name ≡ folded_name case n
+    own = ap (λ (c : Child). folded_name case c.name) at ∙ order-equal case (get_or cs i d).name n (h.same d)
+
+-- below a child that is found its directory changes
+pub changed-below : (case : Case) (f : Children → Children) (cs ds : List Child) (n : Name) (x : Path) (i : ℕ) (d new : Child) (below : Children) → IsHere case cs n i → d ≡ get_or cs i d → tree_of_node d.node ≡ Branch below → new.name ≡ d.name → tree_of_node new.node ≡ Branch (changed case f x below) → ds ≡ set cs i new
+    → children_of ds ≡ changed case f (folded_name case n ∷ x) (children_of cs)
+changed-below case f cs ds n x i d new below h at dir named made is =
+    ap children_of (is ∙ set-parts cs i new h.within)
+    ∙ sym (here-put case cs new i (subst (λ (m : Name). IsHere case cs m i) (sym named) (here-own case cs n i d h at)))
+    ∙ (λ j. put case (named j) (made j) (children_of cs))
+    ∙ ap (λ t. put_changed case (children_of cs) d.name t (changed case f x)) (sym dir)
+    ∙ ap (λ o. with_changed case (children_of cs) o (changed case f x)) (ap (λ (c : Child). Some (named_of c)) at ∙ sym (here-child case cs n i d h))
+
+-- a child in its own place
+set-same : (cs : List Child) (i : ℕ) (d : Child) → d ≡ get_or cs i d → set cs i d ≡ cs
+set-same [] zero d e = refl
+set-same [] (suc i) d e = refl
+set-same (c ∷ cs) zero d e = ap (λ f. f ∷ cs) e
+set-same (c ∷ cs) (suc i) d e = ap (λ more. c ∷ more) (set-same cs i d e)
+
+-- below a file nothing changes
+pub changed-file : (case : Case) (f : Children → Children) (cs ds : List Child) (n : Name) (x : Path) (i : ℕ) (d : Child) (bytes : List ℕ) → IsHere case cs n i → d ≡ get_or cs i d → tree_of_node d.node ≡ Leaf bytes → ds ≡ set cs i d → children_of ds ≡ changed case f (folded_name case n ∷ x) (children_of cs)
+changed-file case f cs ds n x i d bytes h at leaf is =
+    ap children_of (is ∙ set-same cs i d at)
+    ∙ ap (λ t. put_changed case (children_of cs) d.name t (changed case f x)) (sym leaf)
+    ∙ ap (λ o. with_changed case (children_of cs) o (changed case f x)) (ap (λ (c : Child). Some (named_of c)) at ∙ sym (here-child case cs n i d h))
+
+-- where no child has the name nothing changes
+pub changed-nowhere : (case : Case) (f : Children → Children) (cs : List Child) (n : Name) (x : Path) (i : ℕ) → IsGap case cs n i → children_of cs ≡ changed case f (folded_name case n ∷ x) (children_of cs)
+changed-nowhere case f cs n x i h = ap (λ o. with_changed case (children_of cs) o (changed case f x)) (sym (gap-child case cs n i h))
+
+-- the place of a path is its first name, folded, and the place of the others
+pub place-begins : (case : Case) (names : Path) (n : Name) → 1 ≤ length names → n ≡ get_or names 0 n → folded_name case n ∷ place case (take (length names - 1) (drop 1 names)) ≡ place case names
+place-begins case [] n some is = absurd (omega arith)
+place-begins case (m ∷ names) n some is = λ j. folded_name case (is j) ∷ place case (all j)
+  where
+    all : take (length (m ∷ names) - 1) names ≡ names
+    all = take_all (length (m ∷ names) - 1) names (omega arith)
 
 -- ---- what is below listed children
 

@@ -1,7 +1,10 @@
 -- What the nodes of the code stand for.
-use Rattle.std.specs.Prelude.{◌≡◌, ℕ, ◌<◌, ◌≤◌, List, [], ◌∷◌, length, take, drop, slice_index_or}
+use Rattle.std.specs.Prelude.{◌≡◌, ℕ, ◌<◌, ◌≤◌, List, [], ◌∷◌, Option, Some, None, length, take, drop, slice_index_or}
 use Rattle.std.specs.List.{AllByRecursion as Each}
 use Rattle.std.specs.declared.cmp.Ordering.TheVariants.{Less, Equal, Greater}
+use Rattle.std.specs.declared.sync.Arc.{Arc}
+use Rattle.std.specs.declared.vec.Vec.{Vec}
+use Rattle.std.specs.declared.alloc.Global.{Global}
 use Rattle.vfs_model.specs.declared.Case.{Case}
 use Rattle.vfs_model.specs.Paths.{Name, name_order}
 use Rattle.world_model.specs.FileTree.{FileTree, Leaf, Branch, Children, NoChildren, WithChild, Named}
@@ -22,6 +25,11 @@ named_of c = record { name = c.name; tree = tree_of_node c.node }
 abbrev pub children_of : List Child → Children
 children_of [] = NoChildren
 children_of (c ∷ more) = WithChild c.name (tree_of_node c.node) (children_of more)
+
+-- the children that an owner has, or none
+abbrev pub listed : Option (Arc (Vec Child Global) Global) → List Child
+listed None = []
+listed (Some owner) = owner.value.items
 
 -- the child at the index has the name, and the children before it come before the name
 pub record IsHere (case : Case) (cs : List Child) (n : Name) (i : ℕ) : Type 0 where

@@ -1,6 +1,6 @@
-//! Edits of a nested tree: each makes the directories on the way anew and shares the rest.
+//! Edits of a nested tree, each of which changes it in place.
 
-ghost use Rattle.std.specs.Prelude.{◌≡◌, ◌<◌, None, IfOk, length};
+ghost use Rattle.std.specs.Prelude.{◌≡◌, ◌<◌, None, IfOk, OnOk, OnErr, length};
 ghost use Rattle.vfs_model.specs.Edit as edits;
 ghost use Rattle.world_model.specs.FileTree.{Branch, cleared, edited, placed, spelled, world_of, IsOrdered, IsTree};
 ghost use Rattle.world_model.specs.Meaning.{edit_of};
@@ -13,81 +13,97 @@ use case_order::{Case, NoMemory, Share};
 use std::alloc::Global;
 use vfs_path::Name;
 
-/// The tree after an edit that is not refused.
+/// Does an edit that is not refused.
 ///
-/// The only error is want of memory.
-pub(crate) fn edited(
+/// The only error is want of memory, and the tree stays then.
+pub(crate) fn edit_tree(
     alloc: Global,
     case: Case,
-    root: &Listing,
+    root: &mut Listing,
     edit: &Edit,
-) -> Result<Listing, NoMemory>
-    requires tree { IsTree case root.now }
-    requires allowed { edits.refusal case (world_of root.now) (edit_of edit.now) ≡ None }
-    ensures { IfOk result (λ new. new ≡ edited case root.now (edit_of edit.now)) }
+) -> Result<(), NoMemory>
+    requires tree { IsTree case root.old }
+    requires allowed { edits.refusal case (world_of root.old) (edit_of edit.now) ≡ None }
+    ensures edited { OnOk result (root.new ≡ edited case root.old (edit_of edit.now)) }
+    ensures kept { OnErr result (root.new ≡ root.old) }
 {
     match edit {
         Edit::Write(path, bytes) => {
             let names = path.as_slice();
             let name = spelled(case, root, names)?;
             let node = Node::File(bytes.share()?);
-            placed(alloc, case, root, names, name, node)
+            place(alloc, case, root, names, Child { name, node })
         }
         Edit::Mkdir(path) => {
             let names = path.as_slice();
             let name = last(names).share()?;
-            placed(alloc, case, root, names, name, Node::Dir(Listing::empty()))
+            let node = Node::Dir(Listing::empty());
+            place(alloc, case, root, names, Child { name, node })
         }
-        Edit::Remove(path) => cleared(alloc, case, root, path.as_slice()),
-        Edit::Move(from, to) => moved(alloc, case, root, from.as_slice(), to.as_slice()),
+        Edit::Remove(path) => clear(alloc, case, root, path.as_slice()),
+        Edit::Move(from, to) => move_node(alloc, case, root, from.as_slice(), to.as_slice()),
     }
 }
 
-/// The tree with something moved from one path to another.
-fn moved(
+/// Moves what is at one path to another, if anything is there.
+///
+/// Both changes are made in a tree that shares with this one, so that it stays where memory is
+/// wanting for the second.
+fn move_node(
     alloc: Global,
     case: Case,
-    root: &Listing,
+    root: &mut Listing,
     from: &[Name],
     to: &[Name],
-) -> Result<Listing, NoMemory>
-    requires ordered { IsOrdered case (Branch root.now) }
+) -> Result<(), NoMemory>
+    requires ordered { IsOrdered case (Branch root.old) }
     requires below_from { 0 < length from.now }
     requires below_to { 0 < length to.now }
-    ensures { IfOk result (λ new. new ≡ edited case root.now (edits.Move from.now to.now)) }
+    ensures moved { OnOk result (root.new ≡ edited case root.old (edits.Move from.now to.now)) }
+    ensures kept { OnErr result (root.new ≡ root.old) }
 {
-    let rest = cleared(alloc, case, root, from)?;
+    let mut changed = root.share()?;
+    clear(alloc, case, &mut changed, from)?;
     let Some(node) = root.at(case, from).node()? else {
-        return Ok(rest);
+        *root = changed;
+        return Ok(());
     };
     let name = last(to).share()?;
-    placed(alloc, case, &rest, to, name, node)
+    place(alloc, case, &mut changed, to, Child { name, node })?;
+    *root = changed;
+    Ok(())
 }
 
-/// The tree with something at the path, under this name.
-fn placed(
+/// Puts the child at the path, under its own name.
+///
+/// The only error is want of memory, and the tree stays then.
+fn place(
     alloc: Global,
     case: Case,
-    root: &Listing,
+    root: &mut Listing,
     path: &[Name],
-    name: Name,
-    node: Node,
-) -> Result<Listing, NoMemory>
-    requires ordered { IsOrdered case (Branch root.now) }
+    child: Child,
+) -> Result<(), NoMemory>
+    requires ordered { IsOrdered case (Branch root.old) }
     requires below { 0 < length path.now }
-    ensures { IfOk result (λ new. new ≡ placed case root.now path.now name (tree_of_node node)) }
+    ensures placed { OnOk result (root.new
+        ≡ placed case root.old path.now child.name (tree_of_node child.node)) }
+    ensures kept { OnErr result (root.new ≡ root.old) }
 {
-    root.changed(alloc, case, parent(path), Change::Put(Child { name, node }))
+    root.change(alloc, case, parent(path), Change::Put(child))
 }
 
-/// The tree with nothing at the path.
-fn cleared(alloc: Global, case: Case, root: &Listing, path: &[Name]) -> Result<Listing, NoMemory>
-    requires ordered { IsOrdered case (Branch root.now) }
+/// Takes away what is at the path.
+///
+/// The only error is want of memory, and the tree stays then.
+fn clear(alloc: Global, case: Case, root: &mut Listing, path: &[Name]) -> Result<(), NoMemory>
+    requires ordered { IsOrdered case (Branch root.old) }
     requires below { 0 < length path.now }
-    ensures { IfOk result (λ new. new ≡ cleared case root.now path.now) }
+    ensures cleared { OnOk result (root.new ≡ cleared case root.old path.now) }
+    ensures kept { OnErr result (root.new ≡ root.old) }
 {
     let name = last(path).share()?;
-    root.changed(alloc, case, parent(path), Change::Take(name))
+    root.change(alloc, case, parent(path), Change::Take(name))
 }
 
 /// How the last name of what is at the path is spelled, or how the path spells it where nothing is

@@ -1,6 +1,6 @@
 //! The tree in memory.
 
-ghost use Rattle.std.specs.Prelude.{◌≡◌, [], None, IfOk, IfErr, OnOk, OnErr, length};
+ghost use Rattle.std.specs.Prelude.{◌≡◌, [], false, None, Err, IfOk, IfErr, OnOk, OnErr, length, if◌then◌else◌};
 ghost use Rattle.vfs_model.specs.Paths.{place};
 ghost use Rattle.vfs_model.specs.World.{IsWorld, IsSameBelow};
 ghost use Rattle.vfs_model.specs.Edit as edits;
@@ -9,9 +9,12 @@ ghost use Rattle.vfs_model.specs.Sound.{IsLook};
 ghost use Rattle.vfs_model.specs.History.{empty_world};
 ghost use Rattle.world_model.specs.FileTree.{world_of, IsTree};
 ghost use Rattle.world_model.specs.Meaning.{edit_of, events_of, look_seen, IsRefusal};
+ghost use Rattle.world_model.specs.Told.{takes_case};
+ghost use Rattle.world_model.specs.declared.edit.ApplyError.TheVariants as apply_error;
+ghost use Rattle.world_model.specs.declared.edit.EditError.TheVariants as edit_error;
 ghost use Rattle.world_model.specs.declared.entry.LookError.TheVariants as look_error;
 
-use crate::apply::edited;
+use crate::apply::edit_tree;
 use crate::edit::{ApplyError, Edit, Events};
 use crate::entry::{Entry, LookError};
 use crate::node::{Found, Listing};
@@ -24,8 +27,8 @@ use vfs_path::{Name, Path};
 
 /// A tree in memory, which tells its content and has no faults; its answers it does not list.
 ///
-/// Contracts see its case and its world. An edit makes the directories on its way anew and shares
-/// everything else, so that want of memory leaves the tree as it was.
+/// Contracts see its case and its world. An edit changes the directory in its place, once all that
+/// may want memory is there, so that want of memory leaves the tree as it was.
 #[derive(Drop)]
 pub struct MemTree {
     alloc: Global,
@@ -59,11 +62,13 @@ impl MemTree {
 }
 
 impl Tree for MemTree {
-    ghost use Rattle.std.specs.Prelude.{Some, None};
+    ghost use Rattle.std.specs.Prelude.{Some, None, false};
 
     ghost told = { λ t. record { case = t.case; content = Some t.world; faults = 0; answers = None } };
 
     ghost most_faults = { 0 };
+
+    ghost takes_no_edits = { false };
 
     fn case(&self) -> Case
         ensures case { result ≡ self.now.case }
@@ -100,10 +105,30 @@ impl Tree for MemTree {
         ensures refused { IfErr result
             (IsRefusal (edits.refusal self.old.case self.old.world (edit_of edit.now))) }
         ensures kept { OnErr result (self.new ≡ self.old) }
+        ensures editable { result ≡ Err (apply_error.Refused edit_error.ReadOnly) → ⊥ }
     {
-        let (root, events) = done(self.alloc, self.case, &self.root, edit)?;
-        self.root = root;
-        Ok(events)
+        edit_checked(self.alloc, self.case, &mut self.root, edit)
+    }
+
+    fn read_only(&self) -> bool
+        ensures { result ≡ false }
+    {
+        false
+    }
+
+    /// Sets the case of a tree that has its root alone; of another one it stays.
+    fn set_case(&mut self, case: Case) -> bool
+        ensures seen { result ≡ takes_case self.old.case self.old.world case }
+        ensures tree { self.new ≡ (if result then record self.old { case = case } else self.old) }
+    {
+        if self.case == case {
+            return true;
+        }
+        if !self.root.is_empty() {
+            return false;
+        }
+        self.case = case;
+        true
     }
 }
 
@@ -126,25 +151,27 @@ fn look_at(alloc: Global, case: Case, root: &Listing, names: &[Name]) -> Result<
     }
 }
 
-/// The tree after the edit, and the paths that tell of it.
-fn done(
+/// Does the edit where it is not refused, and gives the paths that tell of it. On an error the tree
+/// stays.
+fn edit_checked(
     alloc: Global,
     case: Case,
-    root: &Listing,
+    root: &mut Listing,
     edit: &Edit,
-) -> Result<(Listing, Events), ApplyError>
-    requires { IsTree case root.now }
-    ensures events { IfOk result (λ done. events_of done.1 ≡ edits.events (edit_of edit.now)) }
-    ensures allowed { OnOk result (edits.refusal case (world_of root.now) (edit_of edit.now) ≡ None) }
-    ensures tree { IfOk result (λ done. IsTree case done.0) }
-    ensures applied { IfOk result (λ done. IsSameBelow case
-        (edits.apply case (world_of root.now) (edit_of edit.now)) [] (world_of done.0) []) }
-    ensures refused { IfErr result (IsRefusal (edits.refusal case (world_of root.now) (edit_of edit.now))) }
+) -> Result<Events, ApplyError>
+    requires { IsTree case root.old }
+    ensures events { IfOk result (λ events. events_of events ≡ edits.events (edit_of edit.now)) }
+    ensures allowed { OnOk result (edits.refusal case (world_of root.old) (edit_of edit.now) ≡ None) }
+    ensures tree { IsTree case root.new }
+    ensures applied { OnOk result (IsSameBelow case
+        (edits.apply case (world_of root.old) (edit_of edit.now)) [] (world_of root.new) []) }
+    ensures refused { IfErr result (IsRefusal (edits.refusal case (world_of root.old) (edit_of edit.now))) }
+    ensures kept { OnErr result (root.new ≡ root.old) }
 {
     check(case, root, edit)?;
     let events = events_of(edit)?;
-    let root = edited(alloc, case, root, edit)?;
-    Ok((root, events))
+    edit_tree(alloc, case, root, edit)?;
+    Ok(events)
 }
 
 /// The paths that tell of an edit.

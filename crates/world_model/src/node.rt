@@ -1,20 +1,21 @@
-//! Files and directories in memory, which share what they have in common.
+//! Files and directories in memory, which change in place where they have one owner.
 
-ghost use Rattle.std.specs.Prelude.{◌≡◌, ◌+◌, ◌≤◌, ◌++◌, length, take, drop, option_map, nat_le, IfOk, IfSome, OnOk, MatchResult};
-ghost use Rattle.std.specs.Option.{option_copied, option_to_list};
+ghost use Rattle.std.specs.Prelude.{◌≡◌, length, option_map, nat_le, IfOk, IfSome, OnOk, OnErr, MatchResult};
+ghost use Rattle.std.specs.Option.{option_copied};
 ghost use Rattle.vfs_model.specs.Paths.{folded_name, place, name_order};
 ghost use Rattle.vfs_model.specs.World.{AreInOrder};
 ghost use Rattle.vfs_model.specs.Edit.{is_missing};
-ghost use Rattle.world_model.specs.FileTree.{Branch, NoChildren, names_of, child, at_root, changed, fits, found_fits, status_of_tree, IsOrdered};
+ghost use Rattle.world_model.specs.FileTree.{Branch, NoChildren, names_of, child, at_root, changed, fits, found_fits, status_of_tree, world_of, IsOrdered};
 ghost use Rattle.world_model.specs.Nodes.{tree_of_node, named_of, children_of, IsHere, IsGap};
 ghost use Rattle.world_model.specs.Found.{tree_found, AreOrderedAt, after_change};
+ghost use Rattle.world_model.specs.Told.{is_root_alone};
 
-use case_order::{Case, NoMemory, Share, Shared, order};
+use case_order::{Case, NoMemory, Share, order, share_all};
 use merkle_hash::Bytes;
-use sqlite_items::Items;
 use std::alloc::Global;
 use std::cmp::Ordering;
 use std::marker::Model;
+use std::sync::Arc;
 use vfs_path::{Name, Names};
 
 /// How many names a directory has at most.
@@ -28,11 +29,11 @@ pub(crate) enum Node {
     Dir(Listing),
 }
 
-/// What is in a directory, in name order. The empty directory takes no memory.
+/// What is in a directory, in name order. A directory that is new takes no memory.
 #[cycle(tree)]
 #[derive(Drop)]
 pub(crate) struct Listing {
-    children: Option<Shared<Items<Child>>>,
+    children: Option<Arc<Vec<Child>, Global>>,
 }
 
 /// A location in a directory.
@@ -51,11 +52,10 @@ impl Model for Listing {
 
     ghost coded = { children_code };
 
-    ghost use Rattle.std.specs.Prelude.{[], unwrap_or};
-    ghost use Rattle.world_model.specs.Nodes.{children_of};
+    ghost use Rattle.world_model.specs.Nodes.{children_of, listed};
     ghost use Rattle.world_model.specs.FileTree.{height_of};
 
-    ghost view = { λ l. children_of (unwrap_or l.children []) };
+    ghost view = { λ l. children_of (listed l.children) };
 
     ghost size = { height_of };
 
@@ -78,7 +78,7 @@ impl Share for Listing {
         match &self.children {
             None => Ok(Listing { children: None }),
             Some(children) => Ok(Listing {
-                children: Some(children.share()?),
+                children: Some(Arc::try_clone(children)?),
             }),
         }
     }
@@ -166,8 +166,15 @@ impl Listing {
     {
         match &self.children {
             None => &[],
-            Some(children) => children.get().as_slice(),
+            Some(children) => children.as_slice(),
         }
+    }
+
+    /// Whether nothing is in it.
+    pub(crate) fn is_empty(&self) -> bool
+        ensures { result ≡ is_root_alone (world_of self.now) }
+    {
+        self.children().is_empty()
     }
 
     /// Whether it has as many names as it may have.
@@ -239,53 +246,32 @@ impl Listing {
         }
     }
 
-    /// The directory after a change in the one that these names lead to; as it is where they lead
-    /// to none.
+    /// Makes a change in the directory that these names lead to; where they lead to none, all stays.
     ///
-    /// What does not change is shared. The only error is want of memory.
-    pub(crate) fn changed(
-        &self,
+    /// What has no other owner changes in its place, and what has one is copied on the way. The only
+    /// error is want of memory, and all stays then too.
+    #[cycle(change)]
+    pub(crate) fn change(
+        &mut self,
         alloc: Global,
         case: Case,
         names: &[Name],
         change: Change,
-    ) -> Result<Listing, NoMemory>
-        requires { IsOrdered case (Branch self.now) }
-        ensures { IfOk result (λ listing. listing
-            ≡ changed case (after_change case change) (place case names.now) self.now) }
+    ) -> Result<(), NoMemory>
+        requires { IsOrdered case (Branch self.old) }
+        ensures changed { OnOk result (self.new
+            ≡ changed case (after_change case change) (place case names.now) self.old) }
+        ensures kept { OnErr result (self.new ≡ self.old) }
     {
-        match names {
-            [] => self.with_change(alloc, case, change),
-            [name, more @ ..] => match self.child(case, name) {
-                None => self.share(),
-                Some(child) => match &child.node {
-                    Node::File(_) => self.share(),
-                    Node::Dir(listing) => {
-                        let name = child.name.share()?;
-                        let node = Node::Dir(listing.changed(alloc, case, more, change)?);
-                        self.with_change(alloc, case, Change::Put(Child { name, node }))
-                    }
-                },
-            },
+        if let Some(shared) = &mut self.children {
+            if let Some(children) = Arc::get_mut(shared) {
+                return change_children(alloc, case, children, names, change);
+            }
         }
-    }
-
-    /// The directory after a change of its own children.
-    fn with_change(&self, alloc: Global, case: Case, change: Change) -> Result<Listing, NoMemory>
-        requires { AreInOrder case (names_of self.now) }
-        ensures { IfOk result (λ listing. listing ≡ after_change case change self.now) }
-    {
-        let old = self.children();
-        match change {
-            Change::Put(child) => match seek(case, old, &child.name) {
-                Ok(i) => joined(alloc, old, i, 1, Some(child)),
-                Err(i) => joined(alloc, old, i, 0, Some(child)),
-            },
-            Change::Take(name) => match seek(case, old, &name) {
-                Ok(i) => joined(alloc, old, i, 1, None),
-                Err(_) => self.share(),
-            },
-        }
+        let mut children = share_all(alloc, self.children())?;
+        change_children(alloc, case, &mut children, names, change)?;
+        *self = Listing::of(alloc, children)?;
+        Ok(())
     }
 
     /// The directory of these children.
@@ -295,12 +281,68 @@ impl Listing {
         if children.is_empty() {
             return Ok(Listing::empty());
         }
-        match Shared::new(alloc, Items::from_vec(children)) {
-            Ok(children) => Ok(Listing {
-                children: Some(children),
-            }),
-            Err((_, refused)) => Err(refused),
-        }
+        let children = Arc::new(alloc, children)?;
+        Ok(Listing {
+            children: Some(children),
+        })
+    }
+}
+
+/// Makes a change in the directory that these names lead to from the one of these children.
+///
+/// The only error is want of memory, and all stays then.
+#[cycle(change)]
+fn change_children(
+    alloc: Global,
+    case: Case,
+    children: &mut Vec<Child>,
+    names: &[Name],
+    change: Change,
+) -> Result<(), NoMemory>
+    requires { IsOrdered case (Branch (children_of children.old.items)) }
+    ensures changed { OnOk result (children_of children.new.items
+        ≡ changed case (after_change case change) (place case names.now) (children_of children.old.items)) }
+    ensures kept { OnErr result (children_of children.new.items ≡ children_of children.old.items) }
+{
+    match names {
+        [] => change_here(case, children, change),
+        [name, more @ ..] => match seek(case, children.as_slice(), name) {
+            Err(_) => Ok(()),
+            Ok(i) => match &mut children[i].node {
+                Node::File(_) => Ok(()),
+                Node::Dir(listing) => listing.change(alloc, case, more, change),
+            },
+        },
+    }
+}
+
+/// Makes a change among these children themselves.
+///
+/// The only error is want of memory, and all stays then.
+fn change_here(case: Case, children: &mut Vec<Child>, change: Change) -> Result<(), NoMemory>
+    requires { AreInOrder case (names_of (children_of children.old.items)) }
+    ensures changed { OnOk result (children_of children.new.items
+        ≡ after_change case change (children_of children.old.items)) }
+    ensures kept { OnErr result (children_of children.new.items ≡ children_of children.old.items) }
+{
+    match change {
+        Change::Put(child) => match seek(case, children.as_slice(), &child.name) {
+            Ok(i) => {
+                children[i] = child;
+                Ok(())
+            }
+            Err(i) => {
+                children.insert(i, child)?;
+                Ok(())
+            }
+        },
+        Change::Take(name) => match seek(case, children.as_slice(), &name) {
+            Ok(i) => {
+                children.remove(i);
+                Ok(())
+            }
+            Err(_) => Ok(()),
+        },
     }
 }
 
@@ -314,37 +356,6 @@ fn seek(case: Case, children: &[Child], name: &Name) -> Result<usize, usize>
             ensures { result ≡ name_order case child.now.name name.entry.now }
         { order(case, child.name.as_bytes(), name.as_bytes()) },
     )
-}
-
-/// The directory with the child, if any, at an index, in the place of so many others.
-fn joined(
-    alloc: Global,
-    old: &[Child],
-    i: usize,
-    gone: usize,
-    child: Option<Child>,
-) -> Result<Listing, NoMemory>
-    requires { i + gone ≤ length old.now }
-    ensures { IfOk result (λ listing. listing
-        ≡ children_of (take i old.now ++ option_to_list child ++ drop (i + gone) old.now)) }
-{
-    let mut children = Vec::new(alloc);
-    append(&mut children, &old[..i])?;
-    if let Some(child) = child {
-        children.push(child)?;
-    }
-    append(&mut children, &old[i + gone..])?;
-    Listing::of(alloc, children)
-}
-
-/// Appends shares of the children.
-fn append(into: &mut Vec<Child>, from: &[Child]) -> Result<(), NoMemory>
-    ensures { OnOk result (into.new.items ≡ into.old.items ++ from.now) }
-{
-    for child in from {
-        into.push(child.share()?)?;
-    }
-    Ok(())
 }
 
 impl Node {

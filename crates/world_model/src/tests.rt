@@ -1,6 +1,6 @@
 //! Tests: tables of edits and looks, each line with its answer, and a queue of one event.
 
-use crate::{ApplyError, Edit, Entry, Fit, Front, Intake, MemTree, Tree};
+use crate::{ApplyError, Edit, Entry, FailingTree, Fit, Front, Intake, LookError, MemTree, Tree};
 use case_order::{Case, NoMemory};
 use merkle_hash::Bytes;
 use std::alloc::{AllocError, Global};
@@ -53,6 +53,15 @@ fn look_text(alloc: Global, entry: &Entry) -> Result<String, Fail> {
     Ok(String::from_utf8(out)?)
 }
 
+/// What the look gives, or `failed`.
+fn looked<T: Tree>(alloc: Global, tree: &mut T, at: &Path) -> Result<String, Fail> {
+    match tree.look(at) {
+        Ok(entry) => look_text(alloc, &entry),
+        Err(LookError::Failed) => Ok(String::from_str(alloc, "failed")?),
+        Err(LookError::NoMemory) => Err(Fail::from(NoMemory)),
+    }
+}
+
 /// The edit of a line.
 fn edit_of(alloc: Global, word: &str, at: Path, last: &str) -> Result<Edit, Fail> {
     match word {
@@ -71,8 +80,7 @@ fn answer<T: Tree>(alloc: Global, tree: &mut T, line: &str) -> Result<String, Fa
     let at = path(alloc, words.next().unwrap_or(""))?;
     let last = words.next().unwrap_or("");
     if word == "look" {
-        let entry = tree.look(&at)?;
-        return look_text(alloc, &entry);
+        return looked(alloc, tree, &at);
     }
     let edit = edit_of(alloc, word, at, last)?;
     after_edit(alloc, tree, &edit)
@@ -220,6 +228,67 @@ fn paths_have_64_names(rt: HostRuntime) -> Result<(), Fail> {
     ] {
         assert_eq!(rt; answer(alloc, &mut tree, line)?.as_str(), want, "{line}");
     }
+    Ok(())
+}
+
+#[test]
+fn stated_looks_fail(rt: HostRuntime) -> Result<(), Fail> {
+    let alloc = rt.alloc();
+    let mut tree = MemTree::new(alloc, Case::Sensitive);
+    for made in ["mkdir /d", "write /d/a a"] {
+        assert_eq!(rt; answer(alloc, &mut tree, made)?.as_str(), "done");
+    }
+    let mut tree = FailingTree::over(tree, [2, 5].to_vec(alloc)?);
+    for (line, want) in [
+        ("look /d", "dir a"),
+        ("look /d/a", "failed"),
+        ("look /d/a", "file a"),
+        ("write /d/b b", "done"),
+        ("remove /n", "5"),
+        ("look /n", "missing"),
+        ("look /d/b", "failed"),
+        ("look /d", "dir a b"),
+    ] {
+        assert_eq!(rt; answer(alloc, &mut tree, line)?.as_str(), want, "{line}");
+    }
+    assert!(rt; !tree.read_only());
+    Ok(())
+}
+
+/// Sets the case, and gives whether the tree took it and which case it then has.
+fn taken<T: Tree>(tree: &mut T, case: Case) -> (bool, Case) {
+    let is_taken = tree.set_case(case);
+    (is_taken, tree.case())
+}
+
+#[test]
+fn cases_of_trees(rt: HostRuntime) -> Result<(), Fail> {
+    let alloc = rt.alloc();
+    let mut tree = MemTree::new(alloc, Case::Sensitive);
+    assert_eq!(rt;
+        taken(&mut tree, Case::Insensitive),
+        (true, Case::Insensitive)
+    );
+    assert_eq!(rt; answer(alloc, &mut tree, "mkdir /d")?.as_str(), "done");
+    assert_eq!(rt; answer(alloc, &mut tree, "look /D")?.as_str(), "dir");
+    assert_eq!(rt;
+        taken(&mut tree, Case::Insensitive),
+        (true, Case::Insensitive)
+    );
+    assert_eq!(rt;
+        taken(&mut tree, Case::Sensitive),
+        (false, Case::Insensitive)
+    );
+    assert_eq!(rt; answer(alloc, &mut tree, "look /D")?.as_str(), "dir");
+
+    let mut tree = FailingTree::over(tree, [].to_vec(alloc)?);
+    assert_eq!(rt;
+        taken(&mut tree, Case::Sensitive),
+        (false, Case::Insensitive)
+    );
+    assert_eq!(rt; answer(alloc, &mut tree, "remove /d")?.as_str(), "done");
+    assert_eq!(rt; taken(&mut tree, Case::Sensitive), (true, Case::Sensitive));
+    assert!(rt; !tree.read_only());
     Ok(())
 }
 
