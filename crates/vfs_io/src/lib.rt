@@ -3,15 +3,21 @@
 //! A [`Source`] and a [`Sink`] count their faults, so that a caller's answer "the input failed" can
 //! be held to a count that rose. `traits` says what both promise, `memory` has one of each over
 //! vectors, whose stated calls fail, and `standard` one of each over any reader and writer of std.
+//! `folder` is the tree over a folder of the system, and `look` one look into it.
 #![tactic(auto)]
 
+mod folder;
+mod look;
 mod memory;
 mod standard;
 mod traits;
 
+pub use folder::FolderTree;
 pub use memory::{MemSink, MemSource};
 pub use standard::{StdSink, StdSource};
 pub use traits::{Failed, Sink, Source};
 
+#[cfg(test)]
+mod folder_tests;
 #[cfg(test)]
 mod tests;
