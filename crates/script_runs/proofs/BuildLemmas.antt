@@ -132,7 +132,7 @@ when-closes u c scan true covered within = ap open_scan (set-here u.scans c None
 when-closes u c scan false true within = ap open_scan (set-here u.scans c None within)
 when-closes u c scan false false within = ap open_scan (set-here u.scans c None within)
 
-publish-closes : (u : State) (c : ℕ) (scan : Scan) → c < length u.scans → scan_of u c ≡ Some scan → next_left scan.partial ≡ None → scan_of (told_step u (CallPublish c)).state c ≡ None
+pub publish-closes : (u : State) (c : ℕ) (scan : Scan) → c < length u.scans → scan_of u c ≡ Some scan → next_left scan.partial ≡ None → scan_of (told_step u (CallPublish c)).state c ≡ None
 publish-closes u c scan within here next =
     subst (λ (o : Option Scan). scan_of (publish_or u c o).state c ≡ None) (sym here)
     (subst (λ (y : Option Path). scan_of (publish_next u c scan y).state c ≡ None) (sym next)

@@ -39,16 +39,16 @@ some-weaker (Some x) P Q f h = f x h
 
 -- ---- closed scans
 
-none-of : {X : Type 0} (o : Option X) → is_some o ≡ false → o ≡ None
+pub none-of : {X : Type 0} (o : Option X) → is_some o ≡ false → o ≡ None
 none-of None e = refl
 none-of (Some x) e = absurd (true≢false e)
 
 -- where a machine's scan is closed, it is closed in each state that the machine stands for
-closed-in : {V : Type 0} (at : V → Path → ℕ) (count : V → ℕ) (m : Parts V) (s : State) (c : ℕ) → is_some (running_at m.scans c) ≡ false → Stands at count m s → scan_of s c ≡ None
+pub closed-in : {V : Type 0} (at : V → Path → ℕ) (count : V → ℕ) (m : Parts V) (s : State) (c : ℕ) → is_some (running_at m.scans c) ≡ false → Stands at count m s → scan_of s c ≡ None
 closed-in at count m s c closed st = none-of (scan_of s c) (sym (scanning-of at count m s c st) ∙ closed)
 
 -- and the other way round
-closed-of : {V : Type 0} (at : V → Path → ℕ) (count : V → ℕ) (m : Parts V) (s : State) (c : ℕ) → scan_of s c ≡ None → Stands at count m s → is_some (running_at m.scans c) ≡ false
+pub closed-of : {V : Type 0} (at : V → Path → ℕ) (count : V → ℕ) (m : Parts V) (s : State) (c : ℕ) → scan_of s c ≡ None → Stands at count m s → is_some (running_at m.scans c) ≡ false
 closed-of at count m s c closed st = scanning-of at count m s c st ∙ ap is_some closed
 
 -- deliveries leave a closed scan closed
@@ -138,6 +138,13 @@ found-part at count m p r find s st = found-some r (part_at s p) (find (answers 
 hit-is : (c : ℕ) (root : Path) (o : Option Snapshot) (b : Built) → is_some o ≡ true → after_root c root o b ≡ after_hit b
 hit-is c root None b e = cc
 hit-is c root (Some part) b e = refl
+
+-- a root is counted once
+pub one-hit : (before after : Counts) → after ≡ record { hits = before.hits + 1; misses = before.misses; reads = before.reads } → after.hits + after.misses ≡ before.hits + before.misses + 1
+one-hit before after is = let hits = ap (λ (k : Counts). k.hits) is in let misses = ap (λ (k : Counts). k.misses) is in omega (arith, hits, misses)
+
+pub one-miss : (before after : Counts) (n : ℕ) → after ≡ record { hits = before.hits; misses = before.misses + 1; reads = before.reads + n } → after.hits + after.misses ≡ before.hits + before.misses + 1
+one-miss before after n is = let hits = ap (λ (k : Counts). k.hits) is in let misses = ap (λ (k : Counts). k.misses) is in omega (arith, hits, misses)
 
 -- a root that is retained
 pub takes-hit : {V : Type 0} (at : V → Path → ℕ) (count : V → ℕ) (m : Parts V) (c : ℕ) (i : Input) (before after : Counts) → is_some (running_at m.scans c) ≡ false → ((s : State) → Stands at count m s → is_some (part_at s i.root) ≡ true)

@@ -13,3 +13,10 @@ pub mod SoundRunLemmas
 pub mod BuildLemmas
 pub mod BuildRunLemmas
 pub mod ShownLemmas
+pub mod OverLemmas
+pub mod TurnLemmas
+pub mod OverReadLemmas
+pub mod OverBuildLemmas
+pub mod OverSpentLemmas
+pub mod OverOpenLemmas
+pub mod OverRunLemmas

@@ -9,7 +9,7 @@ use Rattle.script_runs.specs.declared.output.Break.TheVariants.{Fault, NoMemory}
 use Rattle.script_text.specs.Writing.{ended}
 use Rattle.script_runs.specs.Lines.{Printed, output_lines, state_after}
 use Rattle.script_runs.specs.Printing.{IsPrinted, RunsAll}
-use Rattle.vfs_io.specs.Told.{SinkTold, Grows}
+use Rattle.vfs_io.specs.Told.{SinkTold}
 use Rattle.vfs_io.specs.Pieces.{AppendsPrefix}
 use Rattle.vfs_io.proofs.GrowLemmas.{Grows-nil, Grows-trans}
 use Rattle.script_runs.specs.Output.{PutsEach, PutsPart, Breaks, BreaksOff}

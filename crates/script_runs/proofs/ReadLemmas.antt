@@ -120,11 +120,11 @@ slots-length case past (r ∷ rs) [] h = absurd h
 slots-length case past (r ∷ rs) (s ∷ ss) h = ap suc (slots-length case past rs ss h.1)
 
 -- a begin that answers a version found the scan closed, and one that answers that it is open found it in progress
-begun-closed : (s : State) (c n : ℕ) (p : Path) (o : Option Scan) → Version n ≡ (begin_or s c p o).reply → o ≡ None
+pub begun-closed : (s : State) (c n : ℕ) (p : Path) (o : Option Scan) → Version n ≡ (begin_or s c p o).reply → o ≡ None
 begun-closed s c n p None e = refl
 begun-closed s c n p (Some scan) e = cc
 
-begun-open : (s : State) (c : ℕ) (p : Path) (o : Option Scan) → AlreadyOpen ≡ (begin_or s c p o).reply → (scan : Scan) × (o ≡ Some scan)
+pub begun-open : (s : State) (c : ℕ) (p : Path) (o : Option Scan) → AlreadyOpen ≡ (begin_or s c p o).reply → (scan : Scan) × (o ≡ Some scan)
 begun-open s c p None e = cc
 begun-open s c p (Some scan) e = (scan, refl)
 

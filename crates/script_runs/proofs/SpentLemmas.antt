@@ -1,6 +1,5 @@
 -- A line makes at most two more invalidations, made or due.
 use Rattle.std.proofs.Common.{◌≡◌, ℕ, zero, suc, ◌+◌, ◌≤◌, Bool, true, false, List, [], ◌∷◌, ◌++◌, length, map, find, nat_lt, Option, Some, None, refl, ap, ◌∙◌, arith, length-append, if◌then◌else◌}
-use Rattle.std.specs.Prelude.{is_some}
 use Rattle.vfs_model.specs.Paths.{Path}
 use Rattle.vfs_model.specs.Edit.{Edit as TreeEdit, Write, Mkdir, Remove, Move, Refusal, refusal, events}
 use Rattle.vfs_model.specs.Pending.{Pending, deliveries_due, put, put_all, has_room}
@@ -15,11 +14,11 @@ use Rattle.world_model.specs.Meaning.{edit_of}
 use Rattle.fingerprint_norms.specs.Meaning.{input_of}
 use Rattle.script_text.specs.declared.script.Command.{Command}
 use Rattle.script_text.specs.declared.script.Command.TheVariants.{Edit, Event, Lose, Deliver, Settle, Begin, Read, Publish, Abandon, Scan as ScanLine, Find, KindOf, VersionOf, Print, Build}
-use Rattle.script_text.specs.declared.script.Line.{Line}
 use Rattle.script_runs.specs.Building.{Built, unbuilt, part_at, after_root, after_input, after_inputs, built}
-use Rattle.script_runs.specs.Report.{settled, printed, printed_for, scanned_or}
+use Rattle.script_runs.specs.Report.{settled, printed_for, scanned_or}
 use Rattle.script_runs.specs.Scanned.{reads_due, after_reads}
-use Rattle.script_runs.specs.Printing.{IsReady}
+use Rattle.script_runs.specs.Printing.{IsReady, IsPrinted}
+use Rattle.script_runs.specs.Over.{SpendsTwo}
 use Rattle.script_runs.proofs.SettleLemmas.{spent-after}
 
 -- the invalidations that were made, and those that are due
@@ -53,7 +52,7 @@ edit-by : (s : State) (edit : TreeEdit) (r : Option Refusal) → spent (edit_by 
 edit-by s edit None = let d = told-due edit s.pending in omega (arith, d)
 edit-by s edit (Some r) = omega arith
 
-begin-spent : (s : State) (c : ℕ) (p : Path) (o : Option Scan) → spent (begin_or s c p o).state ≡ spent s
+pub begin-spent : (s : State) (c : ℕ) (p : Path) (o : Option Scan) → spent (begin_or s c p o).state ≡ spent s
 begin-spent s c p None = refl
 begin-spent s c p (Some scan) = refl
 
@@ -62,7 +61,7 @@ next-spent s c scan None l = refl
 next-spent s c scan (Some y) None = refl
 next-spent s c scan (Some y) (Some l) = refl
 
-read-spent : (s : State) (c : ℕ) (o : Option Scan) (l : Option Look) → spent (read_or s c o l).state ≡ spent s
+pub read-spent : (s : State) (c : ℕ) (o : Option Scan) (l : Option Look) → spent (read_or s c o l).state ≡ spent s
 read-spent s c None l = refl
 read-spent s c (Some scan) l = next-spent s c scan (next_left scan.partial) l
 
@@ -75,11 +74,11 @@ left-spent : (s : State) (c : ℕ) (scan : Scan) (y : Option Path) → spent (pu
 left-spent s c scan (Some y) = refl
 left-spent s c scan None = when-spent s c scan (is_overtaken s.case s.past scan) (is_covered s.retained.pairs (place s.case scan.path))
 
-publish-spent : (s : State) (c : ℕ) (o : Option Scan) → spent (publish_or s c o).state ≡ spent s
+pub publish-spent : (s : State) (c : ℕ) (o : Option Scan) → spent (publish_or s c o).state ≡ spent s
 publish-spent s c None = refl
 publish-spent s c (Some scan) = left-spent s c scan (next_left scan.partial)
 
-drop-spent : (s : State) (c : ℕ) (o : Option Scan) → spent (drop_or s c o).state ≡ spent s
+pub drop-spent : (s : State) (c : ℕ) (o : Option Scan) → spent (drop_or s c o).state ≡ spent s
 drop-spent s c None = refl
 drop-spent s c (Some scan) = refl
 
@@ -102,7 +101,7 @@ missing-spent : (s : State) (seen : List Seen) (missing : Bool) → spent (finge
 missing-spent s seen true = refl
 missing-spent s seen false = refl
 
-kept-spent : (s : State) (inputs : List Input) (seen : List Seen) (o : Option KeptPrint) → spent (fingerprint_or s inputs seen o).state ≡ spent s
+pub kept-spent : (s : State) (inputs : List Input) (seen : List Seen) (o : Option KeptPrint) → spent (fingerprint_or s inputs seen o).state ≡ spent s
 kept-spent s inputs seen (Some k) = refl
 kept-spent s inputs seen None = missing-spent s seen (nat_lt (length seen) (length inputs))
 
@@ -145,26 +144,22 @@ command-spent s caller (Print inputs) =
 command-spent s caller (Build inputs) = let e = build-spent s caller (map input_of inputs) (scan_of s caller) in omega (arith, e)
 
 -- the machine has made, or has due, as many as the state that it stands for
-spent-same : {V : Type 0} (at : V → Path → ℕ) (count : V → ℕ) (m : Parts V) (s : State) → Stands at count m s → count m.versions + deliveries_due m.pending ≡ spent s
+pub spent-same : {V : Type 0} (at : V → Path → ℕ) (count : V → ℕ) (m : Parts V) (s : State) → Stands at count m s → count m.versions + deliveries_due m.pending ≡ spent s
 spent-same at count m s st = let p = st.past in let a = p.number in let b = ap deliveries_due st.pending in omega (arith, a, b)
-
--- after a line the machine has room for one line less
-pub ready-next : {V : Type 0} (at : V → Path → ℕ) (count : V → ℕ) (old new : Parts V) (line : Line) (n : ℕ) → is_some new.content ≡ is_some old.content
-    → ((s : State) → Stands at count old s → Stands at count new (printed s line).state) → IsReady at count old (n + 1) → IsReady at count new n
-ready-next at count old new line n tells run r =
-    let after = run r.state r.stands in
-    record {
-      state = (printed r.state line).state;
-      stands = after;
-      tells = tells ∙ r.tells;
-      room =
-          let a = spent-same at count old r.state r.stands in
-          let b = spent-same at count new (printed r.state line).state after in
-          let c = command-spent r.state line.caller line.command in
-          let d = r.room in
-          omega (arith, a, b, c, d);
-    }
 
 -- room for more is room for fewer
 pub ready-less : {V : Type 0} (at : V → Path → ℕ) (count : V → ℕ) (m : Parts V) (n k : ℕ) → k ≤ n → IsReady at count m n → IsReady at count m k
-ready-less at count m n k le r = record { state = r.state; stands = r.stands; tells = r.tells; room = let d = r.room in omega (arith, d) }
+ready-less at count m n k le r = record { state = r.state; stands = r.stands; room = let d = r.room in omega (arith, d) }
+
+-- a command that asks the tree nothing makes at most two more
+pub quiet-spends : {V : Type 0} (at : V → Path → ℕ) (count : V → ℕ) (old new : Parts V) (caller n : ℕ) (command : Command) (text : List ℕ) → IsReady at count old n
+    → IsPrinted (Stands at count old) (Stands at count new) (λ s. printed_for s caller command) text → SpendsTwo count old new
+quiet-spends at count old new caller n command text r done =
+    let a = spent-same at count old r.state r.stands in
+    let b = spent-same at count new (printed_for r.state caller command).state (done r.state r.stands).1 in
+    let c = command-spent r.state caller command in
+    omega (arith, a, b, c)
+
+-- an edit makes at most two more
+pub edit-spends : {V : Type 0} (count : V → ℕ) (old new : Parts V) → new.versions ≡ old.versions → deliveries_due new.pending ≤ deliveries_due old.pending + 2 → SpendsTwo count old new
+edit-spends count old new same few = let n = ap count same in omega (arith, n, few)

@@ -10,3 +10,6 @@ pub mod Building
 pub mod Taking
 pub mod States
 pub mod Shown
+pub mod Course
+pub mod CourseReport
+pub mod Over

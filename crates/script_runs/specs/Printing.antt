@@ -1,5 +1,5 @@
 -- What a machine owes to a line: its text, and the state after it.
-use Rattle.std.specs.Prelude.{◌≡◌, ◌<◌, ◌≤◌, ◌+◌, ◌*◌, ◌^◌, ℕ, List, [], length, true, is_some}
+use Rattle.std.specs.Prelude.{◌≡◌, ◌<◌, ◌≤◌, ◌+◌, ◌*◌, ◌^◌, ℕ, List, [], length}
 use Rattle.std.specs.declared.option.Option.TheVariants.{Some}
 use Rattle.vfs_model.specs.Paths.{Path}
 use Rattle.vfs_model.specs.Pending.{deliveries_due}
@@ -38,11 +38,10 @@ IsQueue n = (1 ≤ n) × (n ≤ 65536)
 abbrev pub IsWorkers : ℕ → Type 0
 IsWorkers n = (1 ≤ n) × (n ≤ 16)
 
--- the machine stands for a state, tells its content, and has room for so many lines, each of which makes at most two invalidations due
+-- the machine stands for a state, and has room for so many lines, each of which makes at most two invalidations due
 pub record IsReady {V : Type 0} (at : V → Path → ℕ) (count : V → ℕ) (m : Parts V) (lines : ℕ) : Type 0 where
   pub state : State
   pub stands : Stands at count m state
-  pub tells : is_some m.content ≡ true
   pub room : count m.versions + deliveries_due m.pending + 2 * lines < 2 ^ 62
 
 -- what the tree tells is this world in any order, by names that compare under the case

@@ -1,6 +1,6 @@
 //! The lines that show fingerprints: `print` asks for one, and `build` first retains what it is of.
 
-ghost use Rattle.std.specs.Prelude.{◌≡◌, ◌<◌, ◌≤◌, ◌+◌, ◌^◌, ◌∷◌, [], true, false, length, map, IfOk, OnOk, IsSomeAnd, is_some, ◌++◌};
+ghost use Rattle.std.specs.Prelude.{◌≡◌, ◌<◌, ◌≤◌, ◌+◌, ◌^◌, ◌∷◌, [], true, false, length, map, IfOk, OnOk, IfSome, IsSomeAnd, is_some, ◌++◌};
 ghost use Rattle.std.specs.Fmt.{decimal};
 ghost use Rattle.fingerprint_norms.specs.Meaning.{input_of};
 ghost use Rattle.vfs_model.specs.Pending as pending;
@@ -11,6 +11,9 @@ ghost use Rattle.script_runs.specs.Calls.{by_call};
 ghost use Rattle.script_runs.specs.Building.{build_text, fingerprinted, built};
 ghost use Rattle.script_runs.specs.Taking.{PublishesOn, ScansRoot, Takes, built_in};
 ghost use Rattle.script_runs.specs.Printing.{IsPrinted};
+ghost use Rattle.script_runs.specs.CourseReport.{input_taken, inputs_taken, none_taken, built_over};
+ghost use Rattle.script_runs.specs.Over.{MachineLeaves, MachineScans, MachineTakes, MachinePrints, TellsAll};
+ghost use Rattle.vfs_machine.specs.Whole.{told_of};
 
 use crate::replay::{read_all, scan_digests, settle};
 use crate::report::{numbered, printed_text, put_number, word};
@@ -76,7 +79,7 @@ pub(crate) fn print_line<T: Tree, R: Retain, V: Versions>(
     requires few { length inputs.now ≤ 64 }
     ensures printed { IfOk result (λ text. IsPrinted (Stands V.version V.count machine.old) (Stands V.version V.count machine.new)
         (λ s. by_call s (state.CallFingerprint (map input_of inputs.now))) text.items) }
-    ensures tells { is_some machine.new.content ≡ is_some machine.old.content }
+    ensures told { told_of machine.new ≡ told_of machine.old }
 {
     printed_text(alloc, machine.fingerprint(inputs))
 }
@@ -89,12 +92,11 @@ fn publish_begun<H: Threads + Sync, T: Tree, R: Retain, V: Versions>(
     machine: &mut Machine<T, R, V>,
     caller: u64,
 ) -> Result<Option<u64>, NoMemory>
-    requires caller { caller < 16 }
-    requires content { is_some machine.old.content ≡ true }
-    requires faultless { T.most_faults ≡ 0 }
-    ensures published { IfOk result (λ read. IsSomeAnd read (λ n.
+    requires { caller < 16 }
+    ensures published { IfOk result (λ read. TellsAll T.most_faults machine.old → IsSomeAnd read (λ n.
         PublishesOn V.version V.count machine.old machine.new caller n)) }
-    ensures tells { is_some machine.new.content ≡ is_some machine.old.content }
+    ensures over { IfOk result (λ read.
+        MachineLeaves V.version V.count machine.old machine.new caller read) }
 {
     let Some(reads) = read_all(machine, caller)? else {
         machine.drop_scan(caller);
@@ -117,12 +119,12 @@ fn scan_root<H: Threads + Sync, T: Tree, R: Retain, V: Versions>(
     root: &Path,
 ) -> Result<Option<u64>, NoMemory>
     requires caller { caller < 16 }
-    requires content { is_some machine.old.content ≡ true }
-    requires faultless { T.most_faults ≡ 0 }
     requires closed { is_some (running_at machine.old.scans caller) ≡ false }
-    ensures scanned { IfOk result (λ read. IsSomeAnd read (λ n.
+    ensures scanned { IfOk result (λ read. TellsAll T.most_faults machine.old → IsSomeAnd read (λ n.
         ScansRoot V.version V.count machine.old machine.new caller root.now n)) }
-    ensures tells { is_some machine.new.content ≡ is_some machine.old.content }
+    ensures over { IfOk result (λ read.
+        MachineScans V.version V.count machine.old machine.new caller root.now read) }
+    ensures left { IfOk result (λ _. is_some (running_at machine.new.scans caller) ≡ false) }
 {
     // The machine's word that what its tree tells is a world, and that it has sixteen scans.
     let _case = machine.case();
@@ -143,13 +145,15 @@ fn take_input<H: Threads + Sync, T: Tree, R: Retain, V: Versions>(
     counts: Counts,
 ) -> Result<Option<Counts>, NoMemory>
     requires caller { caller < 16 }
-    requires content { is_some machine.old.content ≡ true }
-    requires faultless { T.most_faults ≡ 0 }
     requires closed { is_some (running_at machine.old.scans caller) ≡ false }
     requires few { counts.hits + counts.misses < 64 }
-    ensures taken { IfOk result (λ taken. IsSomeAnd taken (λ after.
+    ensures taken { IfOk result (λ taken. TellsAll T.most_faults machine.old → IsSomeAnd taken (λ after.
         Takes V.version V.count machine.old machine.new caller (input_of input.now ∷ []) counts after)) }
-    ensures tells { is_some machine.new.content ≡ is_some machine.old.content }
+    ensures over { IfOk result (λ taken. MachineTakes V.version V.count machine.old machine.new
+        (λ c. input_taken caller counts c (input_of input.now)) taken) }
+    ensures counted { IfOk result (λ taken. IfSome taken (λ after.
+        after.hits + after.misses ≡ counts.hits + counts.misses + 1)) }
+    ensures left { IfOk result (λ _. is_some (running_at machine.new.scans caller) ≡ false) }
 {
     if machine.find(&input.root).is_some() {
         return Ok(Some(counts.with_hit()));
@@ -169,13 +173,12 @@ fn take_inputs<H: Threads + Sync, T: Tree, R: Retain, V: Versions>(
     inputs: &[Input],
 ) -> Result<Option<Counts>, NoMemory>
     requires caller { caller < 16 }
-    requires content { is_some machine.old.content ≡ true }
-    requires faultless { T.most_faults ≡ 0 }
     requires closed { is_some (running_at machine.old.scans caller) ≡ false }
     requires few { length inputs.now ≤ 64 }
-    ensures taken { IfOk result (λ taken. IsSomeAnd taken (λ after.
+    ensures taken { IfOk result (λ taken. TellsAll T.most_faults machine.old → IsSomeAnd taken (λ after.
         Takes V.version V.count machine.old machine.new caller (map input_of inputs.now) (record { hits = 0; misses = 0; reads = 0 }) after)) }
-    ensures tells { is_some machine.new.content ≡ is_some machine.old.content }
+    ensures over { IfOk result (λ taken. MachineTakes V.version V.count machine.old machine.new
+        (λ c. inputs_taken caller (none_taken c) (map input_of inputs.now)) taken) }
 {
     let mut counts = Counts {
         hits: 0,
@@ -222,7 +225,7 @@ fn fingerprint_built<T: Tree, R: Retain, V: Versions>(
     requires few { length inputs.now ≤ 64 }
     ensures printed { IfOk result (λ text. IsPrinted (Stands V.version V.count machine.old) (Stands V.version V.count machine.new)
         (λ s. fingerprinted (map input_of inputs.now) (built_in counts s)) text.items) }
-    ensures tells { is_some machine.new.content ≡ is_some machine.old.content }
+    ensures told { told_of machine.new ≡ told_of machine.old }
 {
     match machine.fingerprint(inputs) {
         Printed::Is(digest) => counted_text(alloc, digest, counts),
@@ -241,14 +244,13 @@ pub(crate) fn build_line<H: Threads + Sync, T: Tree, R: Retain, V: Versions + Dr
     inputs: &[Input],
 ) -> Result<Vec<u8>, NoMemory>
     requires caller { caller < 16 }
-    requires content { is_some machine.old.content ≡ true }
-    requires faultless { T.most_faults ≡ 0 }
     requires room { V.count machine.old.versions + pending.deliveries_due machine.old.pending < 2 ^ 62 }
     requires some { 1 ≤ length inputs.now }
     requires few { length inputs.now ≤ 64 }
-    ensures printed { IfOk result (λ text. IsPrinted (Stands V.version V.count machine.old) (Stands V.version V.count machine.new)
+    ensures printed { IfOk result (λ text. TellsAll T.most_faults machine.old → IsPrinted (Stands V.version V.count machine.old) (Stands V.version V.count machine.new)
         (λ s. built s caller (map input_of inputs.now) (state.scan_of s caller)) text.items) }
-    ensures tells { is_some machine.new.content ≡ is_some machine.old.content }
+    ensures over { IfOk result (λ text. MachinePrints V.version V.count machine.old machine.new
+        (λ c. built_over caller (map input_of inputs.now) c (state.scan_of c.state caller)) text.items) }
 {
     if machine.scanning(caller) {
         return word(alloc, b"open");

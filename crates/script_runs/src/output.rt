@@ -1,6 +1,6 @@
 //! Output lines, put one by one as the lines of a script are done.
 
-ghost use Rattle.std.specs.Prelude.{◌≡◌, ◌≤◌, [], ◌∷◌, length, IfErr, OnOk, is_some};
+ghost use Rattle.std.specs.Prelude.{◌≡◌, ◌≤◌, ℕ, [], ◌∷◌, length, true, IfErr, OnOk};
 ghost use Rattle.std.specs.List.{AllByRecursion as Each};
 ghost use Rattle.vfs_model.specs.declared.Case.{Case};
 ghost use Rattle.vfs_model.specs.Stands.{Stands};
@@ -8,6 +8,9 @@ ghost use Rattle.script_text.specs.Writing.{ended};
 ghost use Rattle.script_runs.specs.Report.{printed, printed_opening};
 ghost use Rattle.script_runs.specs.Printing.{CanRun, IsReady, IsWorkers, RunsAll, HoldsWorld};
 ghost use Rattle.script_runs.specs.Output.{PutsEach, Breaks, BreaksOff};
+ghost use Rattle.script_runs.specs.CourseReport.{opening_over, printed_over};
+ghost use Rattle.script_runs.specs.Over.{RunsOver, BreaksOver, IsOpeningOf, SpendsTwo, TellsAll};
+ghost use Rattle.vfs_machine.specs.Whole.{told_of};
 
 use crate::opening::open;
 use crate::replay::run_line;
@@ -51,43 +54,58 @@ fn put_text<K: Sink>(mut text: Vec<u8>, sink: &mut K) -> Result<(), Break>
 fn put_opening<T: Tree, K: Sink>(
     alloc: Global,
     tree: &mut T,
+    takes_case: bool,
     opening: &Opening,
     sink: &mut K,
 ) -> Result<(), Break>
-    ensures ok { OnOk result ((case : Case) → RunsAll (printed_opening case)
+    ensures ok { OnOk result (takes_case ≡ true → (case : Case) → RunsAll (printed_opening case)
         (HoldsWorld case (T.told tree.old)) (HoldsWorld case (T.told tree.new)) (opening.now ∷ [])
         (K.told sink.old) (K.told sink.new)) }
-    ensures err { IfErr result (λ e. (case : Case) → BreaksOff (printed_opening case)
+    ensures err { IfErr result (λ e. takes_case ≡ true → (case : Case) → BreaksOff (printed_opening case)
         (HoldsWorld case (T.told tree.old)) (opening.now ∷ [])
+        (K.told sink.old) (K.told sink.new) e) }
+    ensures over { OnOk result ((queue : ℕ) → RunsOver (opening_over takes_case)
+        (IsOpeningOf queue (T.told tree.old)) (IsOpeningOf queue (T.told tree.new))
+        (T.told tree.old) (T.told tree.new) (opening.now ∷ []) (K.told sink.old) (K.told sink.new)) }
+    ensures broken { IfErr result (λ e. (queue : ℕ) → BreaksOver (opening_over takes_case)
+        (IsOpeningOf queue (T.told tree.old)) (T.told tree.old) (opening.now ∷ [])
         (K.told sink.old) (K.told sink.new) e) }
     ensures later { (K.told sink.old).faults ≤ (K.told sink.new).faults }
 {
-    let Ok(text) = open(alloc, tree, opening) else {
+    let Ok(text) = open(alloc, tree, takes_case, opening) else {
         return Err(Break::NoMemory);
     };
     put_text(text, sink)
 }
 
-/// Does what the opening lines ask for, in order, and puts the output line of each.
+/// Does what the opening lines ask for, in order, and puts the output line of each. The tree was asked
+/// before whether it takes the case of the script, and this is what it answered.
 ///
 /// `Fault` comes only where the sink's count of faults rose in this call; the only other error is
 /// want of memory.
 pub fn put_openings<T: Tree, K: Sink>(
     alloc: Global,
     tree: &mut T,
+    takes_case: bool,
     openings: &[Opening],
     sink: &mut K,
 ) -> Result<(), Break>
-    ensures ok { OnOk result ((case : Case) → RunsAll (printed_opening case)
+    ensures ok { OnOk result (takes_case ≡ true → (case : Case) → RunsAll (printed_opening case)
         (HoldsWorld case (T.told tree.old)) (HoldsWorld case (T.told tree.new)) openings.now
         (K.told sink.old) (K.told sink.new)) }
-    ensures err { IfErr result (λ e. (case : Case) → BreaksOff (printed_opening case)
+    ensures err { IfErr result (λ e. takes_case ≡ true → (case : Case) → BreaksOff (printed_opening case)
         (HoldsWorld case (T.told tree.old)) openings.now
+        (K.told sink.old) (K.told sink.new) e) }
+    ensures over { OnOk result ((queue : ℕ) → RunsOver (opening_over takes_case)
+        (IsOpeningOf queue (T.told tree.old)) (IsOpeningOf queue (T.told tree.new))
+        (T.told tree.old) (T.told tree.new) openings.now (K.told sink.old) (K.told sink.new)) }
+    ensures broken { IfErr result (λ e. (queue : ℕ) → BreaksOver (opening_over takes_case)
+        (IsOpeningOf queue (T.told tree.old)) (T.told tree.old) openings.now
         (K.told sink.old) (K.told sink.new) e) }
     ensures later { (K.told sink.old).faults ≤ (K.told sink.new).faults }
 {
     for opening in openings {
-        put_opening(alloc, tree, opening, sink)?;
+        put_opening(alloc, tree, takes_case, opening, sink)?;
     }
     Ok(())
 }
@@ -102,14 +120,19 @@ fn put_line<H: Threads + Sync, T: Tree, R: Retain, V: Versions + Drop, K: Sink>(
 ) -> Result<(), Break>
     requires line { CanRun line.now }
     requires ready { IsReady V.version V.count machine.old 1 }
-    requires faultless { T.most_faults ≡ 0 }
-    ensures ok { OnOk result (RunsAll printed
+    ensures ok { OnOk result (TellsAll T.most_faults machine.old → RunsAll printed
         (Stands V.version V.count machine.old) (Stands V.version V.count machine.new)
         (line.now ∷ []) (K.told sink.old) (K.told sink.new)) }
-    ensures err { IfErr result (λ e. BreaksOff printed
+    ensures err { IfErr result (λ e. TellsAll T.most_faults machine.old → BreaksOff printed
         (Stands V.version V.count machine.old) (line.now ∷ [])
         (K.told sink.old) (K.told sink.new) e) }
-    ensures tells { is_some machine.new.content ≡ is_some machine.old.content }
+    ensures over { OnOk result (RunsOver printed_over
+        (Stands V.version V.count machine.old) (Stands V.version V.count machine.new)
+        (told_of machine.old) (told_of machine.new) (line.now ∷ []) (K.told sink.old) (K.told sink.new)) }
+    ensures broken { IfErr result (λ e. BreaksOver printed_over
+        (Stands V.version V.count machine.old) (told_of machine.old) (line.now ∷ [])
+        (K.told sink.old) (K.told sink.new) e) }
+    ensures room { OnOk result (SpendsTwo V.count machine.old machine.new) }
     ensures later { (K.told sink.old).faults ≤ (K.told sink.new).faults }
 {
     let Ok(text) = run_line(workers, alloc, machine, line) else {
@@ -121,8 +144,9 @@ fn put_line<H: Threads + Sync, T: Tree, R: Retain, V: Versions + Drop, K: Sink>(
 /// Runs the command lines in order, and puts the output line of each. What a line publishes is
 /// hashed by 1 to 16 workers, on whose number no output depends.
 ///
-/// The machine's tree tells its content and counts no fault, so that no look fails. `Fault` comes
-/// only where the sink's count of faults rose in this call; the only other error is want of memory.
+/// What is put is the report over what the machine's tree answered; where the tree tells its content
+/// and can count no fault, that is what the content alone makes of it. `Fault` comes only where the
+/// sink's count of faults rose in this call; the only other error is want of memory.
 pub fn run_lines<H: Threads + Sync, T: Tree, R: Retain, V: Versions + Drop, K: Sink>(
     rt: &H,
     alloc: Global,
@@ -134,12 +158,17 @@ pub fn run_lines<H: Threads + Sync, T: Tree, R: Retain, V: Versions + Drop, K: S
     requires workers { IsWorkers workers }
     requires lines { Each CanRun lines.now }
     requires ready { IsReady V.version V.count machine.old (length lines.now) }
-    requires faultless { T.most_faults ≡ 0 }
-    ensures ok { OnOk result (RunsAll printed
+    ensures ok { OnOk result (TellsAll T.most_faults machine.old → RunsAll printed
         (Stands V.version V.count machine.old) (Stands V.version V.count machine.new)
         lines.now (K.told sink.old) (K.told sink.new)) }
-    ensures err { IfErr result (λ e. BreaksOff printed
+    ensures err { IfErr result (λ e. TellsAll T.most_faults machine.old → BreaksOff printed
         (Stands V.version V.count machine.old) lines.now
+        (K.told sink.old) (K.told sink.new) e) }
+    ensures over { OnOk result (RunsOver printed_over
+        (Stands V.version V.count machine.old) (Stands V.version V.count machine.new)
+        (told_of machine.old) (told_of machine.new) lines.now (K.told sink.old) (K.told sink.new)) }
+    ensures broken { IfErr result (λ e. BreaksOver printed_over
+        (Stands V.version V.count machine.old) (told_of machine.old) lines.now
         (K.told sink.old) (K.told sink.new) e) }
     ensures later { (K.told sink.old).faults ≤ (K.told sink.new).faults }
 {

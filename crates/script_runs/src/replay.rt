@@ -1,6 +1,6 @@
 //! Command lines, run one after the other on a machine.
 
-ghost use Rattle.std.specs.Prelude.{◌≡◌, ◌<◌, ◌+◌, ◌^◌, ◌++◌, true, codes, IfOk, IsSomeAnd, is_some};
+ghost use Rattle.std.specs.Prelude.{◌≡◌, ◌<◌, ◌+◌, ◌^◌, ◌++◌, codes, IfOk, IsSomeAnd};
 ghost use Rattle.vfs_model.specs.Pending as pending;
 ghost use Rattle.vfs_model.specs.State as state;
 ghost use Rattle.world_model.specs.Meaning.{edit_of};
@@ -8,6 +8,10 @@ ghost use Rattle.scan_walk.specs.Scans.{running_at, AreDigests};
 ghost use Rattle.script_runs.specs.Report.{by_call, settled, scanned_or, printed};
 ghost use Rattle.script_runs.specs.Scanned.{ReadsOn};
 ghost use Rattle.script_runs.specs.Printing.{CanRun, IsReady, IsPrinted, IsPrintedOn};
+ghost use Rattle.script_runs.specs.Course.{by_turn};
+ghost use Rattle.script_runs.specs.CourseReport.{reads_of, read_in, scan_ended, scanned_over, printed_over};
+ghost use Rattle.script_runs.specs.Over.{MachinePrints, MachineReads, SpendsTwo, TellsAll};
+ghost use Rattle.vfs_machine.specs.Whole.{told_of};
 ghost use Rattle.vfs_model.specs.Stands.{Stands};
 ghost use Rattle.std.specs.Fmt.{decimal};
 ghost use Rattle.script_runs.specs.Settling.{Settles};
@@ -34,10 +38,11 @@ fn edit_line<T: Tree, R: Retain, V: Versions>(
     machine: &mut Machine<T, R, V>,
     edit: &Edit,
 ) -> Result<Vec<u8>, NoMemory>
-    requires { is_some machine.old.content ≡ true }
-    ensures printed { IfOk result (λ text. IsPrinted (Stands V.version V.count machine.old) (Stands V.version V.count machine.new)
+    ensures printed { IfOk result (λ text. TellsAll T.most_faults machine.old → IsPrinted (Stands V.version V.count machine.old) (Stands V.version V.count machine.new)
         (λ s. by_call s (state.CallEdit (edit_of edit.now))) text.items) }
-    ensures tells { is_some machine.new.content ≡ is_some machine.old.content }
+    ensures over { IfOk result (λ text. MachinePrints V.version V.count machine.old machine.new
+        (λ c. by_turn c (state.CallEdit (edit_of edit.now))) text.items) }
+    ensures room { SpendsTwo V.count machine.old machine.new }
 {
     edited_text(alloc, machine.edit(edit))
 }
@@ -49,7 +54,7 @@ fn event_line<T: Tree, R: Retain, V: Versions>(
 ) -> Result<Vec<u8>, NoMemory>
     ensures printed { IfOk result (λ text. IsPrinted (Stands V.version V.count machine.old) (Stands V.version V.count machine.new)
         (λ s. by_call s (state.CallEvent path.now)) text.items) }
-    ensures tells { is_some machine.new.content ≡ is_some machine.old.content }
+    ensures told { told_of machine.new ≡ told_of machine.old }
 {
     let path = path.share()?;
     fit_text(alloc, machine.event(path))
@@ -61,7 +66,7 @@ fn lose_line<T: Tree, R: Retain, V: Versions>(
 ) -> Result<Vec<u8>, NoMemory>
     ensures printed { IfOk result (λ text. IsPrinted (Stands V.version V.count machine.old) (Stands V.version V.count machine.new)
         (λ s. by_call s state.CallLose) text.items) }
-    ensures tells { is_some machine.new.content ≡ is_some machine.old.content }
+    ensures told { told_of machine.new ≡ told_of machine.old }
 {
     machine.lose();
     word(alloc, b"lost")
@@ -74,7 +79,7 @@ fn deliver_line<T: Tree, R: Retain, V: Versions + Drop>(
     requires { V.count machine.old.versions < 2 ^ 62 }
     ensures printed { IfOk result (λ text. IsPrinted (Stands V.version V.count machine.old) (Stands V.version V.count machine.new)
         (λ s. by_call s state.CallDeliver) text.items) }
-    ensures tells { is_some machine.new.content ≡ is_some machine.old.content }
+    ensures told { told_of machine.new ≡ told_of machine.old }
 {
     delivered_text(alloc, &machine.deliver())
 }
@@ -85,7 +90,7 @@ pub(crate) fn settle<T: Tree, R: Retain, V: Versions + Drop>(
 ) -> Result<u64, NoMemory>
     requires { V.count machine.old.versions + pending.deliveries_due machine.old.pending < 2 ^ 62 }
     ensures settled { IfOk result (λ n. Settles V.version V.count machine.old machine.new n) }
-    ensures tells { is_some machine.new.content ≡ is_some machine.old.content }
+    ensures told { told_of machine.new ≡ told_of machine.old }
 {
     let mut count = 0u64;
     loop {
@@ -105,7 +110,7 @@ fn settle_line<T: Tree, R: Retain, V: Versions + Drop>(
     requires { V.count machine.old.versions + pending.deliveries_due machine.old.pending < 2 ^ 62 }
     ensures printed { IfOk result (λ text. IsPrinted (Stands V.version V.count machine.old) (Stands V.version V.count machine.new)
         settled text.items) }
-    ensures tells { is_some machine.new.content ≡ is_some machine.old.content }
+    ensures told { told_of machine.new ≡ told_of machine.old }
 {
     let count = settle(machine)?;
     numbered(alloc, b"settled ", count)
@@ -120,7 +125,7 @@ fn begin_line<T: Tree, R: Retain, V: Versions>(
     requires { caller < 16 }
     ensures printed { IfOk result (λ text. IsPrinted (Stands V.version V.count machine.old) (Stands V.version V.count machine.new)
         (λ s. by_call s (state.CallBegin caller path.now)) text.items) }
-    ensures tells { is_some machine.new.content ≡ is_some machine.old.content }
+    ensures told { told_of machine.new ≡ told_of machine.old }
 {
     began_text(alloc, machine.begin(caller, path))
 }
@@ -130,13 +135,14 @@ fn read_line<T: Tree, R: Retain, V: Versions>(
     machine: &mut Machine<T, R, V>,
     caller: u64,
 ) -> Result<Vec<u8>, NoMemory>
-    requires caller { caller < 16 }
-    requires content { is_some machine.old.content ≡ true }
-    requires faultless { T.most_faults ≡ 0 }
-    ensures printed { IfOk result (λ text. IsPrinted (Stands V.version V.count machine.old) (Stands V.version V.count machine.new)
+    requires { caller < 16 }
+    ensures printed { IfOk result (λ text. TellsAll T.most_faults machine.old → IsPrinted (Stands V.version V.count machine.old) (Stands V.version V.count machine.new)
         (λ s. by_call s (state.CallRead caller)) text.items) }
-    ensures tells { is_some machine.new.content ≡ is_some machine.old.content }
+    ensures over { IfOk result (λ text. MachinePrints V.version V.count machine.old machine.new
+        (λ c. by_turn c (state.CallRead caller)) text.items) }
 {
+    // The machine's word that it stands for a state.
+    let _case = machine.case();
     readed_text(alloc, &machine.read(caller))
 }
 
@@ -166,7 +172,7 @@ fn publish_line<H: Threads + Sync, T: Tree, R: Retain, V: Versions>(
     requires { caller < 16 }
     ensures printed { IfOk result (λ text. IsPrinted (Stands V.version V.count machine.old) (Stands V.version V.count machine.new)
         (λ s. by_call s (state.CallPublish caller)) text.items) }
-    ensures tells { is_some machine.new.content ≡ is_some machine.old.content }
+    ensures told { told_of machine.new ≡ told_of machine.old }
 {
     let digests = scan_digests(workers, alloc, machine, caller)?;
     published_text(alloc, machine.publish(caller, digests.as_slice()))
@@ -180,7 +186,7 @@ fn abandon_line<T: Tree, R: Retain, V: Versions>(
     requires { caller < 16 }
     ensures printed { IfOk result (λ text. IsPrinted (Stands V.version V.count machine.old) (Stands V.version V.count machine.new)
         (λ s. by_call s (state.CallDrop caller)) text.items) }
-    ensures tells { is_some machine.new.content ≡ is_some machine.old.content }
+    ensures told { told_of machine.new ≡ told_of machine.old }
 {
     dropped_text(alloc, machine.drop_scan(caller))
 }
@@ -190,14 +196,16 @@ pub(crate) fn read_all<T: Tree, R: Retain, V: Versions>(
     machine: &mut Machine<T, R, V>,
     caller: u64,
 ) -> Result<Option<u64>, NoMemory>
-    requires caller { caller < 16 }
-    requires content { is_some machine.old.content ≡ true }
-    requires faultless { T.most_faults ≡ 0 }
-    ensures read { IfOk result (λ read. IsSomeAnd read (λ n.
+    requires { caller < 16 }
+    ensures read { IfOk result (λ read. TellsAll T.most_faults machine.old → IsSomeAnd read (λ n.
         ReadsOn V.version V.count machine.old machine.new caller n)) }
+    ensures over { IfOk result (λ read.
+        MachineReads V.version V.count machine.old machine.new caller read) }
     ensures content { machine.new.content ≡ machine.old.content }
 {
     for count in 0..u64::MAX {
+        // The machine's word that it stands for a state.
+        let _case = machine.case();
         match machine.read(caller) {
             Readed::Saw(_, _, _) => {}
             Readed::Done => return Ok(Some(count)),
@@ -226,12 +234,11 @@ fn scan_begun<H: Threads + Sync, T: Tree, R: Retain, V: Versions>(
     machine: &mut Machine<T, R, V>,
     caller: u64,
 ) -> Result<Vec<u8>, NoMemory>
-    requires caller { caller < 16 }
-    requires content { is_some machine.old.content ≡ true }
-    requires faultless { T.most_faults ≡ 0 }
-    ensures printed { IfOk result (λ text.
+    requires { caller < 16 }
+    ensures printed { IfOk result (λ text. TellsAll T.most_faults machine.old →
         IsPrintedOn V.version V.count machine.old machine.new caller text.items) }
-    ensures tells { is_some machine.new.content ≡ is_some machine.old.content }
+    ensures over { IfOk result (λ text. MachinePrints V.version V.count machine.old machine.new
+        (λ c. scan_ended caller (reads_of caller c).course (read_in (reads_of caller c))) text.items) }
 {
     let Some(reads) = read_all(machine, caller)? else {
         return word(alloc, b"fault");
@@ -247,12 +254,11 @@ fn scan_line<H: Threads + Sync, T: Tree, R: Retain, V: Versions>(
     caller: u64,
     path: &Path,
 ) -> Result<Vec<u8>, NoMemory>
-    requires caller { caller < 16 }
-    requires content { is_some machine.old.content ≡ true }
-    requires faultless { T.most_faults ≡ 0 }
-    ensures printed { IfOk result (λ text. IsPrinted (Stands V.version V.count machine.old) (Stands V.version V.count machine.new)
+    requires { caller < 16 }
+    ensures printed { IfOk result (λ text. TellsAll T.most_faults machine.old → IsPrinted (Stands V.version V.count machine.old) (Stands V.version V.count machine.new)
         (λ s. scanned_or s caller path.now (state.scan_of s caller)) text.items) }
-    ensures tells { is_some machine.new.content ≡ is_some machine.old.content }
+    ensures over { IfOk result (λ text. MachinePrints V.version V.count machine.old machine.new
+        (λ c. scanned_over caller path.now c (state.scan_of c.state caller)) text.items) }
 {
     // The machine's word that what its tree tells is a world, and that it has sixteen scans.
     let _case = machine.case();
@@ -307,10 +313,11 @@ pub(crate) fn run_line<H: Threads + Sync, T: Tree, R: Retain, V: Versions + Drop
 ) -> Result<Vec<u8>, NoMemory>
     requires line { CanRun line.now }
     requires ready { IsReady V.version V.count machine.old 1 }
-    requires faultless { T.most_faults ≡ 0 }
-    ensures printed { IfOk result (λ text. IsPrinted (Stands V.version V.count machine.old) (Stands V.version V.count machine.new)
+    ensures printed { IfOk result (λ text. TellsAll T.most_faults machine.old → IsPrinted (Stands V.version V.count machine.old) (Stands V.version V.count machine.new)
         (λ s. printed s line.now) text.items) }
-    ensures tells { is_some machine.new.content ≡ is_some machine.old.content }
+    ensures over { IfOk result (λ text. MachinePrints V.version V.count machine.old machine.new
+        (λ c. printed_over c line.now) text.items) }
+    ensures room { IfOk result (λ _. SpendsTwo V.count machine.old machine.new) }
 {
     let caller = line.caller;
     match &line.command {

@@ -6,7 +6,7 @@ use Rattle.std.specs.Fmt.{decimal}
 use Rattle.std.specs.Str.{bytes_eq}
 use Rattle.std.proofs.lemmas.Slice.Eq.{bytes_eq-Decides}
 use Rattle.std.proofs.lemmas.Fmt.{decimal_injective}
-use Rattle.vfs_tool.specs.Forms.{IsReplay, IsGen}
+use Rattle.vfs_tool.specs.Forms.{IsReplay, IsFolder, IsGen}
 
 -- the words, by their number and what each is
 
@@ -37,10 +37,25 @@ two_forms words v w first name second count some few e f is also same number =
     ∙ ap (λ (t : List ℕ). t ∷ string_bytes w ∷ []) (sym is ∙ same)
     ∙ ap (λ (t : List ℕ). name ∷ t ∷ []) (sym also ∙ number)
 
+pub folder_form : (words : List (String Global)) (v : String Global) (first name : List ℕ) → 2 ≤ length words → length words < 3 → v ≡ get_or words 0 v → first ≡ string_bytes v → first ≡ name → (second : List ℕ) × (map string_bytes words ≡ name ∷ second ∷ [])
+folder_form [] v first name some few e is same = absurd (omega arith)
+folder_form (x ∷ []) v first name some few e is same = absurd (omega arith)
+folder_form (x ∷ y ∷ []) v first name some few e is same = (string_bytes y, ap (λ (t : List ℕ). t ∷ string_bytes y ∷ []) (sym (is ∙ ap string_bytes e) ∙ same))
+folder_form (x ∷ y ∷ z ∷ words) v first name some few e is same = absurd (omega arith)
+
 -- words of a replay are none of `gen N`, and N is told by its words
 
 pub replay_or_gen : (words : List (String Global)) (n : ℕ) → IsReplay words → IsGen n words → ⊥
 replay_or_gen words n is gen = let e = is in let f = gen.2 in cc
+
+pub replay_or_folder : (words : List (String Global)) → IsReplay words → IsFolder words → ⊥
+replay_or_folder words is folder = let e = is in let f = folder.1 in cc
+
+same_first : (v w a b : List ℕ) (words : List (List ℕ)) → words ≡ v ∷ a ∷ [] → words ≡ w ∷ b ∷ [] → v ≡ w
+same_first v w a b words e f = cc
+
+pub folder_or_gen : (words : List (String Global)) (n : ℕ) → IsFolder words → IsGen n words → ⊥
+folder_or_gen words n folder gen = let same = same_first (codes "folder") (codes "gen") folder.0 (decimal n) (map string_bytes words) folder.1 gen.2 in cc
 
 same_second : (v : List ℕ) (a b : List ℕ) (words : List (List ℕ)) → words ≡ v ∷ a ∷ [] → words ≡ v ∷ b ∷ [] → a ≡ b
 same_second v a b words e f = cc

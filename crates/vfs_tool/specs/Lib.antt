@@ -3,3 +3,4 @@ pub mod Input
 pub mod Run
 pub mod Forms
 pub mod Gen
+pub mod Folder

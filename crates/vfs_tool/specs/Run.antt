@@ -57,3 +57,15 @@ Answers input Usage = ⊥
 Answers input ReadFault = ⊥
 Answers input WriteFault = ⊥
 Answers input TooLong = ⊥
+
+-- ---- runs that end before a script begins
+
+-- no line of a script was done
+abbrev pub IsUnrun : Status → Type 0
+IsUnrun (BadScript bad) = Unit {0}
+IsUnrun Usage = Unit {0}
+IsUnrun ReadFault = Unit {0}
+IsUnrun TooLong = Unit {0}
+IsUnrun Done = ⊥
+IsUnrun WriteFault = ⊥
+IsUnrun NoMemory = ⊥

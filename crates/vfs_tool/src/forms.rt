@@ -10,6 +10,8 @@ ghost use Rattle.vfs_tool.specs.Forms.{IsCount, IsForm};
 pub(crate) enum Form {
     /// `replay`.
     Replay,
+    /// `folder DIR`. The tree at DIR is the caller's to open.
+    Folder,
     /// `gen N`, and N, which is 1 to 1,000.
     Gen(u64),
 }
@@ -42,13 +44,14 @@ fn count_of(word: &str) -> Option<u64>
     }
 }
 
-/// What the words ask for: `replay`, or `gen N`. None where they are of no form.
+/// What the words ask for: `replay`, `folder DIR`, or `gen N`. None where they are of no form.
 pub(crate) fn form_of(words: &[String]) -> Option<Form>
     ensures found { IfSome result (λ form. IsForm form words.now) }
     ensures missed { result ≡ None → (form : Form) → IsForm form words.now → ⊥ }
 {
     match words {
         [word] if word.as_str() == "replay" => Some(Form::Replay),
+        [word, _] if word.as_str() == "folder" => Some(Form::Folder),
         [word, count] if word.as_str() == "gen" => Some(Form::Gen(count_of(count.as_str())?)),
         _ => None,
     }

@@ -7,7 +7,7 @@ ghost use Rattle.script_runs.specs.Printing.{CanRun, IsQueue, IsWorkers};
 ghost use Rattle.script_runs.specs.Report.{report_of};
 ghost use Rattle.vfs_tool.specs.Gen.{summary, GenEnds};
 
-use crate::run::run_script;
+use crate::run::run_over;
 use crate::status::Status;
 use case_order::NoMemory;
 use script_summary::{generated_script, summary_line};
@@ -15,6 +15,7 @@ use script_text::Script;
 use std::alloc::Global;
 use std::thread::Threads;
 use vfs_io::{Failed, MemSink, Sink};
+use world_model::MemTree;
 
 /// A sink in memory with what the script prints, which is run over an empty tree.
 ///
@@ -27,9 +28,10 @@ fn replayed<H: Threads + Sync>(rt: &H, alloc: Global, script: &Script) -> Result
     ensures { IfOk result (λ sink. sink.bytes ≡ report_of script.now) }
 {
     let mut sink = MemSink::new(alloc, Vec::new(alloc));
-    match run_script(rt, alloc, script, &mut sink) {
-        Ok(()) => Ok(sink),
-        Err(_) => Err(NoMemory),
+    let empty = MemTree::new(alloc, script.settings.case);
+    match run_over(rt, alloc, script, empty, &mut sink) {
+        (Ok(()), _) => Ok(sink),
+        (Err(_), _) => Err(NoMemory),
     }
 }
 

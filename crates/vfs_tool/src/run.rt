@@ -1,6 +1,6 @@
 //! The program as a call.
 
-ghost use Rattle.std.specs.Prelude.{◌≡◌, ◌↔◌, ◌⊎◌, ◌+◌, ◌-◌, ◌^◌, ◌<◌, ◌≤◌, ℕ, List, Some, length, IsTrue, IfErr, OnOk};
+ghost use Rattle.std.specs.Prelude.{◌≡◌, ◌↔◌, ◌⊎◌, ◌+◌, ◌-◌, ◌^◌, ◌<◌, ◌≤◌, ℕ, List, Some, length, IfErr, OnOk};
 ghost use Rattle.std.specs.List.{AllByRecursion as Each};
 ghost use Rattle.script_text.specs.declared.cause.BadLine.{BadLine};
 ghost use Rattle.script_text.specs.declared.script.TextKind.TheVariants.{Replay};
@@ -8,17 +8,21 @@ ghost use Rattle.script_reader.specs.Faults.{FirstBad};
 ghost use Rattle.vfs_model.specs.Faults.{Rose};
 ghost use Rattle.vfs_tool.specs.Input.{TakesNothing, TakesAll, TakesSome, AsksAtMost, limit};
 ghost use Rattle.script_runs.specs.Output.{PutsEach, PutsNothing, Breaks, BreaksOff};
-ghost use Rattle.script_runs.specs.Printing.{CanRun, IsQueue, IsWorkers, RunsAll, IsOpeningOver};
+ghost use Rattle.script_runs.specs.Printing.{CanRun, IsQueue, IsWorkers, RunsAll};
 ghost use Rattle.script_runs.specs.Report.{printed, lines_of};
+ghost use Rattle.script_runs.specs.CourseReport.{printed_over};
+ghost use Rattle.script_runs.specs.Over.{RunsOver, BreaksOver, IsOpeningOf};
 ghost use Rattle.vfs_tool.specs.declared.forms.Form.{Form};
-ghost use Rattle.vfs_tool.specs.Forms.{IsReplay, IsGen, IsForm};
+ghost use Rattle.vfs_tool.specs.Forms.{IsReplay, IsFolder, IsGen, IsForm};
 ghost use Rattle.vfs_tool.specs.Gen.{GenEnds};
-ghost use Rattle.vfs_tool.specs.Run.{PutsReport, PutsPrefix, PutsLines, Reports, ReportsPrefix, ReportsLines, Answers};
+ghost use Rattle.vfs_tool.specs.Run.{PutsReport, PutsPrefix, PutsLines, Reports, ReportsPrefix, ReportsLines, Answers, IsUnrun};
+ghost use Rattle.vfs_tool.specs.Folder.{TellsWhole, IsEmptyTree, PutsOver, BreaksScript, PutsTextOver, BreaksText, ReportsOver, BreaksReport};
 
 use crate::forms::{Form, form_of};
 use crate::generate::run_gen;
 use crate::input::{Stop, take_all};
 use crate::status::Status;
+use case_order::Case;
 use script_reader::{Line, Script, ScriptError, read_script};
 use script_runs::{Break, put_openings, run_lines};
 use snapshot_hierarchy::FlatRetain;
@@ -27,164 +31,297 @@ use std::thread::Threads;
 use version_hierarchy::FlatVersions;
 use vfs_io::{Sink, Source};
 use vfs_machine::Machine;
-use world_model::{MemTree, Settings};
+use world_model::{MemTree, Settings, Tree};
 
-/// Runs the command lines over the tree, with nothing pending and nothing retained.
-fn run_commands<H: Threads + Sync, K: Sink>(
+/// Runs the command lines over the tree, with nothing pending and nothing retained, and gives the tree
+/// back. Names compare by the case that the tree has.
+fn run_commands<H: Threads + Sync, T: Tree, K: Sink>(
     rt: &H,
     alloc: Global,
     settings: Settings,
-    tree: MemTree,
+    tree: T,
     lines: &[Line],
     sink: &mut K,
-) -> Result<(), Break>
-    requires case { tree.case ≡ settings.case }
+) -> (Result<(), Break>, T)
     requires queue { IsQueue settings.queue }
     requires workers { IsWorkers settings.workers }
     requires lines { Each CanRun lines.now }
     requires few { length lines.now < 2 ^ 61 }
-    ensures ok { OnOk result (RunsAll printed (IsOpeningOver settings tree) (λ _. Unit {0})
+    ensures ok { OnOk result.0 (TellsWhole T.most_faults (T.told tree) → RunsAll printed
+        (IsOpeningOf settings.queue (T.told tree)) (λ _. Unit {0})
         lines.now (K.told sink.old) (K.told sink.new)) }
-    ensures err { IfErr result (λ e. BreaksOff printed (IsOpeningOver settings tree) lines.now
+    ensures err { IfErr result.0 (λ e. TellsWhole T.most_faults (T.told tree) → BreaksOff printed
+        (IsOpeningOf settings.queue (T.told tree)) lines.now
+        (K.told sink.old) (K.told sink.new) e) }
+    ensures over { OnOk result.0 (RunsOver printed_over
+        (IsOpeningOf settings.queue (T.told tree)) (λ s. s.case ≡ (T.told result.1).case)
+        (T.told tree) (T.told result.1) lines.now (K.told sink.old) (K.told sink.new)) }
+    ensures broken { IfErr result.0 (λ e. BreaksOver printed_over
+        (IsOpeningOf settings.queue (T.told tree)) (T.told tree) lines.now
         (K.told sink.old) (K.told sink.new) e) }
     ensures later { (K.told sink.old).faults ≤ (K.told sink.new).faults }
 {
+    let case = tree.case();
     let made = Machine::make(
         alloc,
         tree,
-        FlatRetain::new(alloc, settings.case),
-        FlatVersions::new(alloc, settings.case),
+        FlatRetain::new(alloc, case),
+        FlatVersions::new(alloc, case),
         settings.queue,
     );
-    let Ok(mut machine) = made else {
-        return Err(Break::NoMemory);
+    let mut machine = match made {
+        Ok(machine) => machine,
+        Err((tree, _, _)) => return (Err(Break::NoMemory), tree),
     };
-    run_lines(rt, alloc, settings.workers, &mut machine, lines, sink)
+    let ended = run_lines(rt, alloc, settings.workers, &mut machine, lines, sink);
+    (ended, machine.into_tree())
 }
 
-/// Runs the script over an empty tree.
-pub(crate) fn run_script<H: Threads + Sync, K: Sink>(
+/// Runs the script over the tree, and gives the tree back. The tree is asked once, before the first
+/// line, to take the script's case; where it does not, names compare by its own.
+pub(crate) fn run_over<H: Threads + Sync, T: Tree, K: Sink>(
     rt: &H,
     alloc: Global,
     script: &Script,
+    mut tree: T,
     sink: &mut K,
-) -> Result<(), Break>
+) -> (Result<(), Break>, T)
     requires queue { IsQueue script.now.settings.queue }
     requires workers { IsWorkers script.now.settings.workers }
     requires lines { Each CanRun script.now.lines }
     requires few { length script.now.lines < 2 ^ 61 }
-    ensures ok { OnOk result (PutsEach (K.told sink.old) (K.told sink.new) (lines_of script.now)) }
-    ensures err { IfErr result (λ e.
+    ensures ok { OnOk result.0 (IsEmptyTree T.most_faults (T.told tree) →
+        PutsEach (K.told sink.old) (K.told sink.new) (lines_of script.now)) }
+    ensures err { IfErr result.0 (λ e. IsEmptyTree T.most_faults (T.told tree) →
         Breaks (K.told sink.old) (K.told sink.new) (lines_of script.now) e) }
+    ensures over { OnOk result.0 (PutsOver T.takes_no_edits (T.told tree) (T.told result.1)
+        script.now (K.told sink.old) (K.told sink.new)) }
+    ensures broken { IfErr result.0 (λ e. BreaksScript T.takes_no_edits (T.told tree)
+        script.now (K.told sink.old) (K.told sink.new) e) }
     ensures later { (K.told sink.old).faults ≤ (K.told sink.new).faults }
 {
     let settings = script.settings;
-    let mut tree = MemTree::new(alloc, settings.case);
-    put_openings(alloc, &mut tree, script.opening.as_slice(), sink)?;
+    let takes_case = tree.set_case(settings.case);
+    let opened = put_openings(
+        alloc,
+        &mut tree,
+        takes_case,
+        script.opening.as_slice(),
+        sink,
+    );
+    if let Err(stopped) = opened {
+        return (Err(stopped), tree);
+    }
     run_commands(rt, alloc, settings, tree, script.lines.as_slice(), sink)
 }
 
-/// Runs the script of a text.
-fn run_text<H: Threads + Sync, K: Sink>(rt: &H, alloc: Global, text: &[u8], sink: &mut K) -> Status
+/// Runs the script of a text over the tree, and gives the tree back.
+fn run_text<H: Threads + Sync, T: Tree, K: Sink>(
+    rt: &H,
+    alloc: Global,
+    text: &[u8],
+    tree: T,
+    sink: &mut K,
+) -> (Status, T)
     requires { length text.now ≤ limit }
-    ensures done { result ≡ Status.Done →
+    ensures done { result.0 ≡ Status.Done → IsEmptyTree T.most_faults (T.told tree) →
         PutsReport text.now (K.told sink.old) (K.told sink.new) }
-    ensures bad { (b : BadLine) → result ≡ Status.BadScript b →
+    ensures done_over { result.0 ≡ Status.Done →
+        PutsTextOver T.takes_no_edits (T.told tree) (T.told result.1)
+        text.now (K.told sink.old) (K.told sink.new) }
+    ensures bad { (b : BadLine) → result.0 ≡ Status.BadScript b →
         FirstBad Replay text.now b × PutsNothing (K.told sink.old) (K.told sink.new) }
-    ensures write_fault { result ≡ Status.WriteFault →
-        Rose (K.told sink.old).faults (K.told sink.new).faults
-        × PutsPrefix text.now (K.told sink.old) (K.told sink.new) }
-    ensures no_memory { result ≡ Status.NoMemory →
+    ensures faulted { result.0 ≡ Status.WriteFault →
+        Rose (K.told sink.old).faults (K.told sink.new).faults }
+    ensures write_fault { result.0 ≡ Status.WriteFault → IsEmptyTree T.most_faults (T.told tree) →
+        PutsPrefix text.now (K.told sink.old) (K.told sink.new) }
+    ensures write_fault_over { result.0 ≡ Status.WriteFault →
+        BreaksText T.takes_no_edits (T.told tree)
+        text.now (K.told sink.old) (K.told sink.new) Break.Fault }
+    ensures no_memory { result.0 ≡ Status.NoMemory → IsEmptyTree T.most_faults (T.told tree) →
         PutsNothing (K.told sink.old) (K.told sink.new)
         ⊎ PutsLines text.now (K.told sink.old) (K.told sink.new) }
-    ensures usage { result ≡ Status.Usage → ⊥ }
-    ensures read_fault { result ≡ Status.ReadFault → ⊥ }
-    ensures too_long { result ≡ Status.TooLong → ⊥ }
+    ensures no_memory_over { result.0 ≡ Status.NoMemory →
+        PutsNothing (K.told sink.old) (K.told sink.new)
+        ⊎ BreaksText T.takes_no_edits (T.told tree)
+        text.now (K.told sink.old) (K.told sink.new) Break.NoMemory }
+    ensures usage { result.0 ≡ Status.Usage → ⊥ }
+    ensures read_fault { result.0 ≡ Status.ReadFault → ⊥ }
+    ensures too_long { result.0 ≡ Status.TooLong → ⊥ }
+    ensures unrun { IsUnrun result.0 → result.1 ≡ tree }
     ensures later { (K.told sink.old).faults ≤ (K.told sink.new).faults }
 {
     match read_script(alloc, text) {
-        Ok(script) => match run_script(rt, alloc, &script, sink) {
-            Ok(()) => Status::Done,
-            Err(Break::Fault) => Status::WriteFault,
-            Err(Break::NoMemory) => Status::NoMemory,
-        },
-        Err(ScriptError::Bad(bad)) => Status::BadScript(bad),
-        Err(ScriptError::NoMemory) => Status::NoMemory,
+        Ok(script) => {
+            let (ended, tree) = run_over(rt, alloc, &script, tree, sink);
+            match ended {
+                Ok(()) => (Status::Done, tree),
+                Err(Break::Fault) => (Status::WriteFault, tree),
+                Err(Break::NoMemory) => (Status::NoMemory, tree),
+            }
+        }
+        Err(ScriptError::Bad(bad)) => (Status::BadScript(bad), tree),
+        Err(ScriptError::NoMemory) => (Status::NoMemory, tree),
     }
 }
 
-/// Does what the words say. `replay` takes a script from the source, runs it over an empty tree,
-/// and puts an output line for each of its opening and command lines. `gen N` makes a script of N
-/// directories, runs it over an empty tree, and puts one line that sums up what the script prints; it
-/// leaves the source alone.
+/// Takes a script from the source, runs it over the tree, and gives the tree back.
+fn run_input<H: Threads + Sync, S: Source, T: Tree, K: Sink>(
+    rt: &H,
+    alloc: Global,
+    source: &mut S,
+    tree: T,
+    sink: &mut K,
+) -> (Status, T)
+    ensures done { result.0 ≡ Status.Done → IsEmptyTree T.most_faults (T.told tree) →
+        Reports (S.told source.old) (S.told source.new) (K.told sink.old) (K.told sink.new) }
+    ensures done_over { result.0 ≡ Status.Done →
+        ReportsOver T.takes_no_edits (T.told tree) (T.told result.1)
+        (S.told source.old) (S.told source.new) (K.told sink.old) (K.told sink.new) }
+    ensures bad { (b : BadLine) → result.0 ≡ Status.BadScript b →
+        ((text : List ℕ) × TakesAll (S.told source.old).left (S.told source.new).left text
+        × FirstBad Replay text b)
+        × PutsNothing (K.told sink.old) (K.told sink.new) }
+    ensures too_long { result.0 ≡ Status.TooLong →
+        TakesSome (S.told source.old).left (S.told source.new).left (λ n. n ≡ limit + 1)
+        × PutsNothing (K.told sink.old) (K.told sink.new) }
+    ensures read_fault { result.0 ≡ Status.ReadFault →
+        Rose (S.told source.old).faults (S.told source.new).faults
+        × TakesSome (S.told source.old).left (S.told source.new).left (λ n. n ≤ limit)
+        × PutsNothing (K.told sink.old) (K.told sink.new) }
+    ensures faulted { result.0 ≡ Status.WriteFault →
+        Rose (K.told sink.old).faults (K.told sink.new).faults }
+    ensures write_fault { result.0 ≡ Status.WriteFault → IsEmptyTree T.most_faults (T.told tree) →
+        ReportsPrefix (S.told source.old) (S.told source.new)
+        (K.told sink.old) (K.told sink.new) }
+    ensures write_fault_over { result.0 ≡ Status.WriteFault →
+        BreaksReport T.takes_no_edits (T.told tree) (S.told source.old) (S.told source.new)
+        (K.told sink.old) (K.told sink.new) Break.Fault }
+    ensures no_memory { result.0 ≡ Status.NoMemory → IsEmptyTree T.most_faults (T.told tree) →
+        TakesSome (S.told source.old).left (S.told source.new).left (λ n. n ≤ limit + 1)
+        × (PutsNothing (K.told sink.old) (K.told sink.new)
+        ⊎ ReportsLines (S.told source.old) (S.told source.new)
+        (K.told sink.old) (K.told sink.new)) }
+    ensures no_memory_over { result.0 ≡ Status.NoMemory →
+        TakesSome (S.told source.old).left (S.told source.new).left (λ n. n ≤ limit + 1)
+        × (PutsNothing (K.told sink.old) (K.told sink.new)
+        ⊎ BreaksReport T.takes_no_edits (T.told tree) (S.told source.old) (S.told source.new)
+        (K.told sink.old) (K.told sink.new) Break.NoMemory) }
+    ensures complete { (S.told source.old).faults ≡ (S.told source.new).faults
+        → (S.told source.old).faults < 2 ^ 64 - 1
+        → (K.told sink.old).faults ≡ (K.told sink.new).faults
+        → (K.told sink.old).faults < 2 ^ 64 - 1
+        → (input : List ℕ) → (S.told source.old).left ≡ Some input → length input ≤ limit
+        → Answers input result.0 }
+    ensures usage { result.0 ≡ Status.Usage → ⊥ }
+    ensures unrun { IsUnrun result.0 → result.1 ≡ tree }
+    ensures asked { AsksAtMost (S.told source.old) (S.told source.new) 65536 }
+    ensures source_faults { (S.told source.old).faults ≤ (S.told source.new).faults }
+    ensures sink_faults { (K.told sink.old).faults ≤ (K.told sink.new).faults }
+{
+    match take_all(alloc, source) {
+        Ok(text) => run_text(rt, alloc, text.as_slice(), tree, sink),
+        Err(Stop::Fault) => (Status::ReadFault, tree),
+        Err(Stop::TooLong) => (Status::TooLong, tree),
+        Err(Stop::NoMemory) => (Status::NoMemory, tree),
+    }
+}
+
+/// Does what the words say, and gives the tree that is handed in back beside how it ended. `replay`
+/// takes a script from the source, runs it over an empty tree, and puts an output line for each of its
+/// opening and command lines. `folder DIR` does the same over the tree that is handed in, which the
+/// caller opened at DIR. `gen N` makes a script of N directories, runs it over an empty tree, and puts
+/// one line that sums up what the script prints; it leaves the source alone.
 ///
 /// Takes at most 65,536 bytes at a time, and stops at the first byte past 16,777,216. Puts each
 /// output line by a call of its own. Hashes what is published by as many workers as the script sets,
 /// on threads of its own, and waits for nobody but these.
-pub fn run<H: Threads + Sync, S: Source, K: Sink>(
+pub fn run<H: Threads + Sync, S: Source, K: Sink, T: Tree>(
     rt: &H,
     alloc: Global,
     words: &[String],
     source: &mut S,
     sink: &mut K,
-) -> Status
+    folder: T,
+) -> (Status, T)
     // Words of no form: nothing is taken and nothing is put.
-    ensures usage { (result ≡ Status.Usage) ↔ ((form : Form) → IsForm form words.now → ⊥) }
-    ensures unused { result ≡ Status.Usage →
+    ensures usage { (result.0 ≡ Status.Usage) ↔ ((form : Form) → IsForm form words.now → ⊥) }
+    ensures unused { result.0 ≡ Status.Usage →
         TakesNothing (S.told source.old) (S.told source.new)
         × PutsNothing (K.told sink.old) (K.told sink.new) }
 
     // The input was taken to its end, it is the text of a script, the whole report was put, each line
     // by a call of its own, each state of that run is sound, and each build in it shows the
     // fingerprint of its inputs in the tree as it stands then.
-    ensures done { IsReplay words.now → result ≡ Status.Done →
+    ensures done { IsReplay words.now → result.0 ≡ Status.Done →
         Reports (S.told source.old) (S.told source.new) (K.told sink.old) (K.told sink.new) }
 
+    // The input was taken to its end, it is the text of a script, and what was put is the report on it
+    // over what the tree answered in this call: as it told it where it tells its answers, and else over
+    // some answers. Where the tree tells its content, each of them is the one that was due, or a look
+    // that failed.
+    ensures done_over { IsFolder words.now → result.0 ≡ Status.Done →
+        ReportsOver T.takes_no_edits (T.told folder) (T.told result.1)
+        (S.told source.old) (S.told source.new) (K.told sink.old) (K.told sink.new) }
+
     // The input was taken to its end, this is its first bad line, and nothing was put.
-    ensures bad { (b : BadLine) → result ≡ Status.BadScript b →
+    ensures bad { (b : BadLine) → result.0 ≡ Status.BadScript b →
         ((text : List ℕ) × TakesAll (S.told source.old).left (S.told source.new).left text
         × FirstBad Replay text b)
         × PutsNothing (K.told sink.old) (K.told sink.new) }
 
     // One byte more than the limit was taken, and nothing was put.
-    ensures too_long { result ≡ Status.TooLong →
+    ensures too_long { result.0 ≡ Status.TooLong →
         TakesSome (S.told source.old).left (S.told source.new).left (λ n. n ≡ limit + 1)
         × PutsNothing (K.told sink.old) (K.told sink.new) }
 
     // The cause lies with the source, and nothing was put.
-    ensures read_fault { result ≡ Status.ReadFault →
+    ensures read_fault { result.0 ≡ Status.ReadFault →
         Rose (S.told source.old).faults (S.told source.new).faults
         × TakesSome (S.told source.old).left (S.told source.new).left (λ n. n ≤ limit)
         × PutsNothing (K.told sink.old) (K.told sink.new) }
 
     // The cause lies with the sink, and a prefix of the report was put, whole lines each by a call of
     // its own.
-    ensures write_fault { IsReplay words.now → result ≡ Status.WriteFault →
+    ensures write_fault { IsReplay words.now → result.0 ≡ Status.WriteFault →
         Rose (K.told sink.old).faults (K.told sink.new).faults
         × ReportsPrefix (S.told source.old) (S.told source.new)
         (K.told sink.old) (K.told sink.new) }
+    ensures write_fault_over { IsFolder words.now → result.0 ≡ Status.WriteFault →
+        Rose (K.told sink.old).faults (K.told sink.new).faults
+        × BreaksReport T.takes_no_edits (T.told folder) (S.told source.old) (S.told source.new)
+        (K.told sink.old) (K.told sink.new) Break.Fault }
 
     // Nothing was put, or whole lines of the report, from the first on.
-    ensures no_memory { IsReplay words.now → result ≡ Status.NoMemory →
+    ensures no_memory { IsReplay words.now → result.0 ≡ Status.NoMemory →
         TakesSome (S.told source.old).left (S.told source.new).left (λ n. n ≤ limit + 1)
         × (PutsNothing (K.told sink.old) (K.told sink.new)
         ⊎ ReportsLines (S.told source.old) (S.told source.new)
         (K.told sink.old) (K.told sink.new)) }
+    ensures no_memory_over { IsFolder words.now → result.0 ≡ Status.NoMemory →
+        TakesSome (S.told source.old).left (S.told source.new).left (λ n. n ≤ limit + 1)
+        × (PutsNothing (K.told sink.old) (K.told sink.new)
+        ⊎ BreaksReport T.takes_no_edits (T.told folder) (S.told source.old) (S.told source.new)
+        (K.told sink.old) (K.told sink.new) Break.NoMemory) }
 
-    // A known input within the limit is answered by what it is, unless a fault comes or memory is
-    // wanting.
-    ensures complete { IsReplay words.now
+    // A known input within the limit is answered by what it is, unless a fault of the source or the
+    // sink comes or memory is wanting. A look that fails ends nothing.
+    ensures complete { IsReplay words.now ⊎ IsFolder words.now
         → (S.told source.old).faults ≡ (S.told source.new).faults
         → (S.told source.old).faults < 2 ^ 64 - 1
         → (K.told sink.old).faults ≡ (K.told sink.new).faults
         → (K.told sink.old).faults < 2 ^ 64 - 1
         → (input : List ℕ) → (S.told source.old).left ≡ Some input → length input ≤ limit
-        → Answers input result }
+        → Answers input result.0 }
 
     // `gen N` puts one line, by one call, and that line is a function of N: it is put whole, unless the
     // sink fails or memory is wanting. However it ends, the source is as it was.
-    ensures generated { (n : ℕ) → IsGen n words.now → GenEnds n (K.told sink.old) (K.told sink.new) result }
+    ensures generated { (n : ℕ) → IsGen n words.now → GenEnds n (K.told sink.old) (K.told sink.new) result.0 }
     ensures untouched { (n : ℕ) → IsGen n words.now → source.new ≡ source.old }
+
+    // The tree that is handed in comes back as it is, unless a script was run over it.
+    ensures other_words { (IsFolder words.now → ⊥) → result.1 ≡ folder }
+    ensures unrun { IsUnrun result.0 → result.1 ≡ folder }
 
     // However it ends, no more bytes were asked for at a time.
     ensures asked { AsksAtMost (S.told source.old) (S.told source.new) 65536 }
@@ -193,13 +330,14 @@ pub fn run<H: Threads + Sync, S: Source, K: Sink>(
     ensures sink_faults { (K.told sink.old).faults ≤ (K.told sink.new).faults }
 {
     match form_of(words) {
-        None => Status::Usage,
-        Some(Form::Gen(directories)) => run_gen(rt, alloc, directories, sink),
-        Some(Form::Replay) => match take_all(alloc, source) {
-            Ok(text) => run_text(rt, alloc, text.as_slice(), sink),
-            Err(Stop::Fault) => Status::ReadFault,
-            Err(Stop::TooLong) => Status::TooLong,
-            Err(Stop::NoMemory) => Status::NoMemory,
-        },
+        None => (Status::Usage, folder),
+        Some(Form::Gen(directories)) => (run_gen(rt, alloc, directories, sink), folder),
+        Some(Form::Replay) => {
+            // The script's case is set before its first line.
+            let empty = MemTree::new(alloc, Case::Sensitive);
+            let (status, _) = run_input(rt, alloc, source, empty, sink);
+            (status, folder)
+        }
+        Some(Form::Folder) => run_input(rt, alloc, source, folder, sink),
     }
 }

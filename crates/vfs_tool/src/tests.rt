@@ -2,6 +2,7 @@
 
 use crate::run::run;
 use crate::status::Status;
+use case_order::Case;
 use script_reader::{BadLine, Cause};
 use std::alloc::Global;
 use std::process::Abort;
@@ -9,6 +10,7 @@ use std::test::Fail;
 use std::thread::Threads;
 use vfs_io::{MemSink, MemSource, Source};
 use vfs_path::PathError;
+use world_model::MemTree;
 
 /// What a run answered, what it wrote, and how many bytes it left.
 #[derive(Drop)]
@@ -31,6 +33,14 @@ fn count_left<S: Source>(source: &mut S) -> usize {
     count
 }
 
+pub(crate) fn words_of(alloc: Global, words: &[&str]) -> Result<Vec<String>, Fail> {
+    let mut owned = Vec::new(alloc);
+    for word in words {
+        owned.push(String::from_str(alloc, word)?)?;
+    }
+    Ok(owned)
+}
+
 fn run_with(
     rt: &(impl Threads + Sync),
     alloc: Global,
@@ -39,13 +49,11 @@ fn run_with(
     source_fails: &[u64],
     sink_fails: &[u64],
 ) -> Result<Ended, Fail> {
-    let mut owned = Vec::new(alloc);
-    for word in words {
-        owned.push(String::from_str(alloc, word)?)?;
-    }
+    let words = words_of(alloc, words)?;
     let mut source = MemSource::over(script.to_vec(alloc)?, source_fails.to_vec(alloc)?);
     let mut sink = MemSink::new(alloc, sink_fails.to_vec(alloc)?);
-    let status = run(rt, alloc, owned.as_slice(), &mut source, &mut sink);
+    let folder = MemTree::new(alloc, Case::Sensitive);
+    let (status, _) = run(rt, alloc, words.as_slice(), &mut source, &mut sink, folder);
     Ok(Ended {
         status,
         written: sink.written().to_vec(alloc)?,
@@ -429,9 +437,11 @@ fn sums_up_the_largest_script(rt: HostRuntime) -> Result<(), Fail> {
 
 #[test]
 fn refuses_other_words(rt: HostRuntime) -> Result<(), Fail> {
-    let table: [&[&str]; 14] = [
+    let table: [&[&str]; 16] = [
         &[],
         &["replay", "x"],
+        &["folder"],
+        &["folder", "x", "y"],
         &["gen"],
         &["gen", "0"],
         &["gen", "01"],

@@ -1,6 +1,4 @@
-use Rattle.std.proofs.Common.{refl, ap, ◌∙◌}
-use Rattle.std.specs.Prelude.{is_some}
-use Rattle.world_model.specs.Told.{TreeTold}
+use Rattle.std.proofs.Common.{refl, ◌∙◌}
 use Rattle.script_runs.proofs.SettleLemmas.{more-delivered, all-delivered}
 use Rattle.script_runs.proofs.replay.settle.Goals as goal
 use Rattle.script_runs.proofs.replay.settle.Goals.{in-Event, in-Cleared}
@@ -19,7 +17,7 @@ loop-count-preserved-after-deliver g c = record {
         | in-Cleared w ↦
             rw w.count-is (more-delivered g.V.Versions.version g.V.Versions.count c.args.machine.now c.loop-count.machine c.deliver.new.self c.loop-count.count c.deliver.result (rw w.in-Cleared.is refl) c.deliver.ensures.step c.deliver.ensures.counts c.loop-count.invariant.delivered)
       ];
-  tells = ap (λ (t : TreeTold). is_some t.content) c.deliver.ensures.content ∙ c.loop-count.invariant.tells;
+  told = c.deliver.ensures.content ∙ c.loop-count.invariant.told;
 }
 
 pub loop-count-preserved-after-deliver-2 : goal.loop-count-preserved-after-deliver-2
@@ -31,7 +29,7 @@ loop-count-preserved-after-deliver-2 g c = record {
         | in-Cleared w ↦
             rw w.count-is (more-delivered g.V.Versions.version g.V.Versions.count c.args.machine.now c.loop-count.machine c.deliver.new.self c.loop-count.count c.deliver.result (rw w.in-Cleared.is refl) c.deliver.ensures.step c.deliver.ensures.counts c.loop-count.invariant.delivered)
       ];
-  tells = ap (λ (t : TreeTold). is_some t.content) c.deliver.ensures.content ∙ c.loop-count.invariant.tells;
+  told = c.deliver.ensures.content ∙ c.loop-count.invariant.told;
 }
 
 pub loop-count-preserved : goal.loop-count-preserved
@@ -43,5 +41,11 @@ loop-count-preserved g c = record {
         | in-Cleared w ↦
             rw w.count-is (more-delivered g.V.Versions.version g.V.Versions.count c.args.machine.now c.loop-count.machine c.deliver.new.self c.loop-count.count c.deliver.result (rw w.in-Cleared.is refl) c.deliver.ensures.step c.deliver.ensures.counts c.loop-count.invariant.delivered)
       ];
-  tells = ap (λ (t : TreeTold). is_some t.content) c.deliver.ensures.content ∙ c.loop-count.invariant.tells;
+  told = c.deliver.ensures.content ∙ c.loop-count.invariant.told;
 }
+
+pub returns-in-Nothing-clause-told : goal.returns-in-Nothing-clause-told
+returns-in-Nothing-clause-told g c = c.deliver.ensures.content ∙ c.loop-count.invariant.told
+
+pub returns-in-NoMemory-clause-told : goal.returns-in-NoMemory-clause-told
+returns-in-NoMemory-clause-told g c = c.deliver.ensures.content ∙ c.loop-count.invariant.told

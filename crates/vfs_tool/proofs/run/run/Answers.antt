@@ -1,21 +1,15 @@
-use Rattle.std.proofs.Common.{List, ℕ, subst}
-use Rattle.script_text.specs.declared.script.TextKind.TheVariants as kinds
-use Rattle.script_reader.specs.Faults.{FirstBad}
+use Rattle.std.proofs.Common.{ℕ, subst, inl, inr}
 use Rattle.vfs_tool.specs.declared.forms.Form.{Form}
-use Rattle.vfs_tool.specs.declared.forms.Form.TheVariants.{Replay, Gen}
+use Rattle.vfs_tool.specs.declared.forms.Form.TheVariants.{Replay, Folder, Gen}
 use Rattle.vfs_tool.specs.Forms.{IsGen, IsForm}
 use Rattle.vfs_tool.specs.Gen.{GenEnds}
 use Rattle.vfs_tool.proofs.WordLemmas.{one_number}
 use Rattle.vfs_tool.proofs.run.run.Goals as goal
 
-pub returns-in-Ok-clause-bad : goal.returns-in-Ok-clause-bad
-returns-in-Ok-clause-bad g c = λ b e.
-    let r = c.run_text.ensures.bad b e in
-    ((c.in-Ok.text.items, c.in-Ok.ensures.ok, subst (λ (t : List ℕ). FirstBad kinds.Replay t b) c.as_slice.ensures.value r.0), r.1)
-
 -- words of no form are those of none
+
 pub returns-in-None-clause-complete : goal.returns-in-None-clause-complete
-returns-in-None-clause-complete g c = λ is. absurd (c.form_of.ensures.missed c.in-None.is Replay is)
+returns-in-None-clause-complete g c = λ is. absurd (elim is [ inl replay ↦ c.form_of.ensures.missed c.in-None.is Replay replay | inr folder ↦ c.form_of.ensures.missed c.in-None.is Folder folder ])
 
 pub returns-in-None-clause-generated : goal.returns-in-None-clause-generated
 returns-in-None-clause-generated g c = λ n is. c.form_of.ensures.missed c.in-None.is (Gen n) is
