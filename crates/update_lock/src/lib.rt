@@ -5,9 +5,7 @@
 //! `lends` lends the value that was taken, and `steps` has the four atomic steps that the calls are
 //! made of. `diary` has the plainest journal and a call of a caller. `rule` names the rule that holds between any two steps, and `view` what a seat knows.
 //!
-//! Nothing is said of progress or of fairness: no contract says that a call of `take` returns. Where
-//! each seat that took the value gives it back, the tickets are served in the order in which they
-//! were drawn.
+//! Nothing is said of progress or of fairness: no contract says that a call of `take` returns.
 #![tactic(auto)]
 
 mod calls;
