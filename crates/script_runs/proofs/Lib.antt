@@ -20,3 +20,4 @@ pub mod OverBuildLemmas
 pub mod OverSpentLemmas
 pub mod OverOpenLemmas
 pub mod OverRunLemmas
+pub mod DueLemmas

@@ -42,11 +42,11 @@ record EndsAt (c : ℕ) (r : Reads) : Type 0 where
   last : r.last ≡ (turn y (CallRead c)).reply
   course : r.course ≡ (turn y (CallRead c)).course
 
-length-none : {X : Type 0} (xs : List X) → length xs ≡ 0 → xs ≡ []
+pub length-none : {X : Type 0} (xs : List X) → length xs ≡ 0 → xs ≡ []
 length-none [] e = refl
 length-none (x ∷ xs) e = absurd (omega (arith, e))
 
-length-less : {X : Type 0} (n : ℕ) (xs : List X) → length xs ≡ suc n → length (drop 1 xs) ≡ n
+pub length-less : {X : Type 0} (n : ℕ) (xs : List X) → length xs ≡ suc n → length (drop 1 xs) ≡ n
 length-less n [] e = absurd (omega (arith, e))
 length-less n (x ∷ xs) e = omega (arith, e)
 
@@ -64,7 +64,7 @@ reads-end (suc n) c x few =
     record { y = x; nothing = none; last = ap (λ (r : Reads). r.last) same; course = ap (λ (r : Reads). r.course) same })
 
 -- the state of the course after a call is that of the step
-call-state : (asked : Bool) (x : Course) (call : _) (s : State) → (after_call asked x call s).state ≡ s
+pub call-state : (asked : Bool) (x : Course) (call : _) (s : State) → (after_call asked x call s).state ≡ s
 call-state true x call s = refl
 call-state false x call s = refl
 

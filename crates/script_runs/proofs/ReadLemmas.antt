@@ -50,7 +50,7 @@ next-stays : (s : State) (c : ℕ) (scan : Scan) (y : Option Path) → is_saw (r
 next-stays s c scan None e = refl
 next-stays s c scan (Some y) e = cc
 
-or-stays : (s : State) (c : ℕ) (o : Option Scan) → is_saw (read_or s c o (look_due s o)).reply ≡ false → (read_or s c o (look_due s o)).state ≡ s
+pub or-stays : (s : State) (c : ℕ) (o : Option Scan) → is_saw (read_or s c o (look_due s o)).reply ≡ false → (read_or s c o (look_due s o)).state ≡ s
 or-stays s c None e = refl
 or-stays s c (Some scan) e = next-stays s c scan (next_left scan.partial) e
 

@@ -53,7 +53,7 @@ next-unlooked : (s : State) (c : ℕ) (scan : Scan) (y : Option Path) (l k : Opt
 next-unlooked s c scan None l k e = refl
 next-unlooked s c scan (Some y) l k e = absurd (true≢false e)
 
-open-unlooked : (s : State) (c : ℕ) (o : Option Scan) (l k : Option Look) → has_left o ≡ false → read_or s c o l ≡ read_or s c o k
+pub open-unlooked : (s : State) (c : ℕ) (o : Option Scan) (l k : Option Look) → has_left o ≡ false → read_or s c o l ≡ read_or s c o k
 open-unlooked s c None l k e = refl
 open-unlooked s c (Some scan) l k e = next-unlooked s c scan (next_left scan.partial) l k e
 

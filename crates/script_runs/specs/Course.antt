@@ -1,9 +1,9 @@
 -- A run over a tree whose answers are given: the state, the answers that are still to come, and what was asked.
-use Rattle.std.specs.Prelude.{◌≡◌, ℕ, ◌+◌, ◌-◌, ◌^◌, ◌≤◌, min, Bool, true, false, List, [], ◌∷◌, ◌++◌, drop, Option, Some, None, is_some, option_map}
-use Rattle.std.specs.List.{count_by}
+use Rattle.std.specs.Prelude.{◌≡◌, ◌≢◌, ℕ, ◌+◌, ◌-◌, ◌^◌, ◌≤◌, min, Bool, true, false, List, [], ◌∷◌, ◌++◌, drop, Option, Some, None, is_some, option_map}
+use Rattle.std.specs.List.{AllByRecursion as Each, count_by}
 use Rattle.vfs_model.specs.Edit.{ReadOnly}
 use Rattle.vfs_model.specs.Scanning.{Scan as ScanInProgress, next_left}
-use Rattle.vfs_model.specs.State.{State, Call, CallEdit, CallRead, Reply, Answers, TreeAnswer, ToEdit, ToLook, Refuses, Does, AreDue, scan_of, step}
+use Rattle.vfs_model.specs.State.{State, Call, CallEdit, CallRead, Reply, Fault, Answers, TreeAnswer, ToEdit, ToLook, Refuses, Does, AreDue, scan_of, step}
 use Rattle.world_model.specs.Told.{TreeTold, with_answers}
 use Rattle.script_runs.specs.Replies.{reply_text}
 use Rattle.script_runs.specs.Lines.{Printed}
@@ -83,6 +83,15 @@ unasked print c = record { text = (print c.state).text; state = at_state c (prin
 -- the answer that the tree gave is the one that is due in the world, or a look that failed
 abbrev pub IsDue : Question → Type 0
 IsDue q = AreDue q.state q.call q.answers
+
+-- the answer that the tree gave is the one that is due in the world, and it is no look that failed
+pub record IsTrueAnswer (q : Question) : Type 0 where
+  pub due : IsDue q
+  pub seen : (step q.answers q.state q.call).reply ≢ Fault
+
+-- each answer so far was true
+abbrev pub AllTrue : Course → Type 0
+AllTrue c = Each IsTrueAnswer c.asked
 
 -- the answer is that of a look that failed
 abbrev pub is_failed : TreeAnswer → Bool

@@ -8,7 +8,7 @@ use Rattle.vfs_model.specs.State.{State, TreeAnswer}
 use Rattle.vfs_model.specs.Stands.{Parts, Stands}
 use Rattle.vfs_model.specs.History.{opening}
 use Rattle.std.specs.declared.option.Option.TheVariants.{Some}
-use Rattle.world_model.specs.Told.{TreeTold}
+use Rattle.world_model.specs.Told.{TreeTold, TellsWhole}
 use Rattle.vfs_machine.specs.Whole.{told_of}
 use Rattle.vfs_io.specs.Told.{SinkTold}
 use Rattle.script_runs.specs.declared.build.Counts.{Counts}
@@ -74,9 +74,9 @@ BreaksOver print before old lines a b e = (asked : List TreeAnswer) × ((more : 
 
 -- ---- machines and trees
 
--- the tree tells its content, and has no fault to count
+-- the machine's tree tells its content, and has no fault to count
 abbrev pub TellsAll : {V : Type 0} → ℕ → Parts V → Type 0
-TellsAll most m = (is_some m.content ≡ true) × (most ≡ 0)
+TellsAll most m = TellsWhole most (told_of m)
 
 -- the invalidations that were made and those that are due are at most two more
 abbrev pub SpendsTwo : {V : Type 0} → (V → ℕ) → Parts V → Parts V → Type 0

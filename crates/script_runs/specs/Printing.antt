@@ -7,10 +7,7 @@ use Rattle.vfs_model.specs.State.{State}
 use Rattle.vfs_model.specs.Stands.{Parts, Stands}
 use Rattle.vfs_model.specs.declared.Case.{Case}
 use Rattle.vfs_model.specs.World.{World, IsSameBelow}
-use Rattle.vfs_model.specs.History.{opening}
 use Rattle.world_model.specs.Told.{TreeTold}
-use Rattle.world_model.specs.Held.{Held}
-use Rattle.world_model.specs.declared.settings.Settings.{Settings}
 use Rattle.vfs_io.specs.Told.{SinkTold}
 use Rattle.script_text.specs.declared.script.Command.{Command}
 use Rattle.script_text.specs.declared.script.Command.TheVariants.{Print, Build}
@@ -50,12 +47,6 @@ pub record HoldsWorld (case : Case) (told : TreeTold) (world : World) : Type 0 w
   pub content : World
   pub tells : told.content ≡ Some content
   pub same : IsSameBelow case world [] content []
-
--- the state is the opening one over a world that the tree in memory holds, under the case and with the queue of the settings
-pub record IsOpeningOver (settings : Settings) (tree : Held) (s : State) : Type 0 where
-  pub world : World
-  pub same : IsSameBelow settings.case world [] tree.world []
-  pub is : s ≡ opening settings.case settings.queue world
 
 -- for every state that stood for what was before, the text is what is printed there, and the state after it stands for what is now
 abbrev pub IsPrinted : {S : Type 0} → (S → Type 0) → (S → Type 0) → (S → Printed S) → List ℕ → Type 0

@@ -69,17 +69,29 @@ printed s line = printed_for s line.caller line.command
 
 -- ---- scripts
 
+-- the world that the opening lines of a script make of this one
+abbrev pub world_opened : World → Script → World
+world_opened world script = state_after (printed_opening script.settings.case) world script.opening
+
+-- the state in which the command lines of a script begin over this world: the world that its opening lines made of it, and a queue of as many events as its settings say
+abbrev pub state_opened : World → Script → State
+state_opened world script = opening script.settings.case script.settings.queue (world_opened world script)
+
+-- the lines that are printed for a script over this world
+abbrev pub lines_in : World → Script → List (List ℕ)
+lines_in world script = output_lines (printed_opening script.settings.case) world script.opening ++ output_lines printed (state_opened world script) script.lines
+
 -- the world that the opening lines of a script make of the empty one
 abbrev pub opening_world : Script → World
-opening_world script = state_after (printed_opening script.settings.case) empty_world script.opening
+opening_world script = world_opened empty_world script
 
--- the state in which the command lines of a script begin: the world that its opening lines made, and a queue of as many events as its settings say
+-- the state in which the command lines of a script begin over the empty world
 abbrev pub opening_state : Script → State
-opening_state script = opening script.settings.case script.settings.queue (opening_world script)
+opening_state script = state_opened empty_world script
 
--- the lines that are printed for a script
+-- the lines that are printed for a script over the empty world
 abbrev pub lines_of : Script → List (List ℕ)
-lines_of script = output_lines (printed_opening script.settings.case) empty_world script.opening ++ output_lines printed (opening_state script) script.lines
+lines_of script = lines_in empty_world script
 
 -- all that is printed for a script
 abbrev pub report_of : Script → List ℕ

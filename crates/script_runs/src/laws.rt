@@ -1,19 +1,21 @@
 //! What makes `settle` and `scan` end, and what holds of each state of a run, as laws of the model
 //! alone.
 
-ghost use Rattle.std.specs.Prelude.{◌≡◌, ◌<◌, ◌++◌, ◌∷◌, [], ℕ, List, None, length};
+ghost use Rattle.std.specs.Prelude.{◌≡◌, ◌<◌, ◌++◌, ◌∷◌, [], ℕ, List, None, true, length};
 ghost use Rattle.std.specs.List.{AllByRecursion as Each};
 ghost use Rattle.script_text.specs.declared.script.Command.{Command};
 ghost use Rattle.script_text.specs.declared.script.Script.{Script};
 ghost use Rattle.script_text.specs.declared.script.TextKind.TheVariants.{Replay};
 ghost use Rattle.script_text.specs.Grammar.{IsTextOf};
 ghost use Rattle.vfs_model.specs.Paths.{Path};
-ghost use Rattle.vfs_model.specs.World.{AreShort};
+ghost use Rattle.vfs_model.specs.World.{World, IsWorld, AreShort};
 ghost use Rattle.vfs_model.specs.Fingerprint.{Input};
 ghost use Rattle.vfs_model.specs.Sound.{IsSound};
-ghost use Rattle.vfs_model.specs.State.{State, scan_of};
+ghost use Rattle.vfs_model.specs.State.{State, TreeAnswer, scan_of};
 ghost use Rattle.script_runs.specs.Building.{built, ShowsTheWorld};
-ghost use Rattle.script_runs.specs.Report.{printed_for};
+ghost use Rattle.script_runs.specs.Report.{printed_for, lines_in};
+ghost use Rattle.script_runs.specs.Course.{AllTrue};
+ghost use Rattle.script_runs.specs.CourseReport.{opening_course, lines_over, course_after};
 ghost use Rattle.script_runs.specs.Scanned.{EndsAfterReads};
 ghost use Rattle.script_runs.specs.Settling.{EndsAfterDue};
 ghost use Rattle.script_runs.specs.States.{states_for, states_of};
@@ -46,6 +48,17 @@ pub fn runs_are_sound()
 pub fn lines_end_in_their_last_state()
     ensures { (s : State) (caller : ℕ) (command : Command) → (front : List State)
         × (states_for s caller command ≡ front ++ (printed_for s caller command).state ∷ []) }
+{}
+
+/// Where a tree took the script's case, and each of its answers was the one that is due in its world,
+/// with no look that failed, the report over its answers is that on the world: over the empty world,
+/// the report of a replay.
+pub fn true_answers_report_the_world()
+    ensures { (text : List ℕ) (script : Script) (world : World) (answers : List TreeAnswer)
+        → IsTextOf Replay text script → IsWorld script.settings.case world
+        → AllTrue (course_after script true (opening_course script.settings.case script.settings.queue world answers))
+        → lines_over script true (opening_course script.settings.case script.settings.queue world answers)
+        ≡ lines_in world script }
 {}
 
 /// From each sound state in which the caller's scan is closed, a build shows the fingerprint of its

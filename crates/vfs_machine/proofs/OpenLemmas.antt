@@ -20,7 +20,7 @@ slots-closed case past zero = tt
 slots-closed case past (suc n) = (tt, slots-closed case past n)
 
 -- with nothing retained or invalidated, it is the opening state of a world that is the one told, where one is
-opening-over : {V : Type 0} (at : V → Path → ℕ) (count : V → ℕ) (told : TreeTold) (queue : ℕ) (held : Held) (v : V) (w : World) → told.case ≡ held.case → ((u : World) → told.content ≡ Some u → IsSameBelow held.case w [] u [])
+pub opening-over : {V : Type 0} (at : V → Path → ℕ) (count : V → ℕ) (told : TreeTold) (queue : ℕ) (held : Held) (v : V) (w : World) → told.case ≡ held.case → ((u : World) → told.content ≡ Some u → IsSameBelow held.case w [] u [])
     → held.retained ≡ nothing → StandsFor (at v) (count v) [] → Stands at count (opening_parts told queue held v) (opening told.case queue w)
 opening-over at count told queue held v w case same empty past = record {
   case = case;

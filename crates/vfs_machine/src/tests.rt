@@ -6,6 +6,7 @@ ghost use Rattle.scan_walk.specs.Scans.{running_at, AreDigests};
 
 use crate::{Answer, Began, Delivered, Edited, Machine, Readed};
 use case_order::{Case, NoMemory};
+use mem_tree::MemTree;
 use merkle_hash::{Bytes, Digest, file_digest};
 use snapshot_hierarchy::{FlatRetain, Retain};
 use snapshot_tree::Kind;
@@ -14,7 +15,7 @@ use std::process::Abort;
 use std::test::Fail;
 use version_hierarchy::{FlatVersions, Versions};
 use vfs_path::Path;
-use world_model::{Edit, EditError, Fit, MemTree, Tree};
+use world_model::{Edit, EditError, Fit, Tree};
 
 fn path(alloc: Global, text: &str) -> Result<Path, Fail> {
     Ok(Path::parse(alloc, text.as_bytes())?)

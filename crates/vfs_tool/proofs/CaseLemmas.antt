@@ -6,21 +6,20 @@ use Rattle.vfs_model.specs.Edit.{Edit as TreeEdit}
 use Rattle.vfs_model.specs.Scanning.{Scan as ScanInProgress, Look, next_left, is_overtaken}
 use Rattle.vfs_model.specs.Fingerprint.{Input, Seen}
 use Rattle.vfs_model.specs.Pending.{deliveries_due}
-use Rattle.vfs_model.specs.State.{State, Call, CallEdit, CallEvent, CallLose, CallDeliver, CallBegin, CallRead, CallPublish, CallDrop, CallFind, CallPart, CallKind, CallVersion, CallFingerprint, Reply, Answers, EditAnswer, Refuses, Does, KeptPrint, step, told_step, answers, scan_of, edit_by, deliver_when, deliver_first, begin_or, read_or, read_next, publish_or, publish_next, publish_when, drop_or, fingerprint_or, fingerprint_when, seen_inputs, is_for_inputs}
+use Rattle.vfs_model.specs.State.{State, Call, CallEdit, CallEvent, CallLose, CallDeliver, CallBegin, CallRead, CallPublish, CallDrop, CallFind, CallPart, CallKind, CallVersion, CallFingerprint, Answers, EditAnswer, Refuses, Does, KeptPrint, step, told_step, answers, scan_of, edit_by, deliver_when, deliver_first, begin_or, read_or, read_next, publish_or, publish_next, publish_when, drop_or, fingerprint_or, fingerprint_when, seen_inputs, is_for_inputs}
 use Rattle.fingerprint_norms.specs.Meaning.{input_of}
 use Rattle.world_model.specs.Meaning.{edit_of}
 use Rattle.script_text.specs.declared.script.Command.{Command}
 use Rattle.script_text.specs.declared.script.Command.TheVariants.{Edit, Event, Lose, Deliver, Settle, Begin, Read, Publish, Abandon, Scan, Find, KindOf, VersionOf, Print, Build}
 use Rattle.script_text.specs.declared.script.Opening.{Opening}
-use Rattle.script_text.specs.declared.script.Line.{Line}
 use Rattle.script_text.specs.declared.script.Script.{Script}
 use Rattle.script_runs.specs.Lines.{Printed, state_after}
 use Rattle.script_runs.specs.Scanned.{is_saw}
-use Rattle.script_runs.specs.Calls.{by_call, after_deliveries, settled}
+use Rattle.script_runs.specs.Calls.{after_deliveries, settled}
 use Rattle.script_runs.specs.Building.{part_at}
-use Rattle.script_runs.specs.Report.{opening_edit, printed_for}
-use Rattle.script_runs.specs.Course.{Course, Turn, turn, asks, after_call, first_answers, at_state}
-use Rattle.script_runs.specs.CourseReport.{Reads, Gathered, reads_of, reads_within, reads_from, read_in, begun, scan_ended, scanned_over, root_left, root_taken, next_taken, inputs_taken, none_taken, gathered, build_ended, built_over, over_for, printed_over, opened, opening_by, opening_over, course_opened, course_after}
+use Rattle.script_runs.specs.Report.{opening_edit}
+use Rattle.script_runs.specs.Course.{Course, turn, asks, after_call, first_answers, at_state}
+use Rattle.script_runs.specs.CourseReport.{Gathered, reads_of, reads_within, reads_from, read_in, begun, scan_ended, scanned_over, root_left, root_taken, next_taken, inputs_taken, none_taken, gathered, build_ended, built_over, over_for, printed_over, opened, opening_by, opening_over, course_opened, course_after}
 
 -- ---- one call
 

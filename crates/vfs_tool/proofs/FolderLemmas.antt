@@ -1,6 +1,5 @@
 -- A script as a whole, over what a tree that was handed in answered.
-use Rattle.std.proofs.Common.{◌≡◌, ℕ, ◌≤◌, ◌<◌, ◌^◌, List, [], ◌++◌, Bool, true, false, Option, Some, None, refl, sym, ap, subst, ◌∙◌, append_assoc, append-nil, arith}
-use Rattle.std.specs.Prelude.{is_some}
+use Rattle.std.proofs.Common.{◌≡◌, ℕ, ◌≤◌, List, [], ◌++◌, Bool, true, false, Option, Some, None, refl, sym, ap, subst, ◌∙◌, append_assoc, append-nil}
 use Rattle.vfs_model.specs.declared.Case.{Case}
 use Rattle.vfs_model.specs.World.{World, IsSameBelow}
 use Rattle.vfs_model.specs.State.{State, TreeAnswer}
@@ -14,7 +13,7 @@ use Rattle.script_runs.specs.declared.output.Break.{Break}
 use Rattle.script_runs.specs.declared.output.Break.TheVariants.{Fault}
 use Rattle.vfs_model.specs.Faults.{Rose}
 use Rattle.script_runs.specs.Lines.{output_lines}
-use Rattle.script_runs.specs.Output.{PutsEach, Breaks, BreaksOff}
+use Rattle.script_runs.specs.Output.{PutsEach}
 use Rattle.script_runs.specs.Course.{Course, Answered}
 use Rattle.script_runs.specs.CourseReport.{opening_over, printed_over, course_opened, course_after, lines_over}
 use Rattle.script_runs.specs.Over.{Meets, RunsOver, BreaksOver, IsOpeningOf}

@@ -1,7 +1,7 @@
 -- A generated script can be run, and each of its lines prints one line.
-use Rattle.std.proofs.Common.{◌≡◌, ℕ, ◌+◌, ◌*◌, ◌≤◌, ◌<◌, ◌^◌, Bool, true, false, cond, eqb, List, [], ◌∷◌, ◌++◌, length, map, Option, Some, None, refl, ap, ◌∙◌, arith, lit<, lit≤}
+use Rattle.std.proofs.Common.{◌≡◌, ℕ, ◌+◌, ◌*◌, ◌≤◌, ◌<◌, ◌^◌, Bool, true, false, cond, List, [], ◌∷◌, ◌++◌, length, map, Option, Some, None, refl, ◌∙◌, arith, lit<, lit≤}
 use Rattle.std.specs.Prelude.{codes}
-use Rattle.std.specs.List.{concat, sum_by, AllByRecursion as Each}
+use Rattle.std.specs.List.{concat, AllByRecursion as Each}
 use Rattle.std.specs.Fmt.{decimal}
 use Rattle.std.proofs.lemmas.List.Sums.{sum_by-cons, sum_by-append}
 use Rattle.hex.specs.Hex.{encode_lower}

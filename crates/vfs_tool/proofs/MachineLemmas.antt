@@ -1,18 +1,19 @@
 -- The machine with which the command lines of a script begin, over a tree that may keep its content to itself.
-use Rattle.std.proofs.Common.{◌≡◌, ℕ, zero, suc, ◌<◌, ◌^◌, List, [], ◌∷◌, ◌++◌, length, replicate, true, Option, Some, None, refl, sym, ap, subst, ◌∙◌, arith}
+use Rattle.std.proofs.Common.{◌≡◌, ℕ, ◌<◌, ◌^◌, List, [], ◌++◌, length, Some, refl, sym, ap, subst, ◌∙◌, arith}
 use Rattle.std.specs.Prelude.{is_some}
 use Rattle.vfs_model.specs.declared.Case.{Case}
 use Rattle.vfs_model.specs.Paths.{Path}
 use Rattle.vfs_model.specs.World.{World, IsSameBelow}
 use Rattle.vfs_model.specs.State.{State, TreeAnswer}
-use Rattle.vfs_model.specs.Stands.{StandsFor, Parts, Stands, AreSlotsOf}
+use Rattle.vfs_model.specs.Stands.{StandsFor, Parts, Stands}
 use Rattle.vfs_model.specs.History.{opening}
-use Rattle.world_model.specs.Told.{TreeTold}
+use Rattle.world_model.specs.Told.{TreeTold, TellsWhole}
 use Rattle.vfs_model.specs.Pending.{version}
 use Rattle.version_hierarchy.specs.Flat.{Invalidated}
 use Rattle.snapshot_hierarchy.specs.Held.{Held, nothing}
 use Rattle.snapshot_hierarchy.specs.Flat.{holding}
 use Rattle.vfs_machine.specs.Whole.{opening_parts, told_of}
+use Rattle.vfs_machine.proofs.OpenLemmas.{opening-over}
 use Rattle.vfs_io.specs.Told.{SinkTold}
 use Rattle.script_runs.specs.declared.output.Break.{Break}
 use Rattle.script_runs.specs.Lines.{Printed}
@@ -20,13 +21,7 @@ use Rattle.script_runs.specs.Printing.{IsReady, RunsAll}
 use Rattle.script_runs.specs.Output.{BreaksOff}
 use Rattle.script_runs.specs.Course.{Course}
 use Rattle.script_runs.specs.Over.{Meets, RunsOver, BreaksOver, IsOpeningOf, TellsAll}
-use Rattle.vfs_tool.specs.Folder.{TellsWhole}
 use Rattle.vfs_tool.proofs.FolderLemmas.{some-world}
-
--- closed scans are those of closed scans
-slots-closed : (case : Case) (past : List Path) (n : ℕ) → AreSlotsOf case past (replicate n None) (replicate n None)
-slots-closed case past zero = tt
-slots-closed case past (suc n) = (tt, slots-closed case past n)
 
 -- a machine as it is made: of the tree that told this, with a queue for so many events, nothing retained and nothing invalidated
 pub record IsMade {V : Type 0} (at : V → Path → ℕ) (count : V → ℕ) (told : TreeTold) (queue : ℕ) (m : Parts V) : Type 0 where
@@ -60,15 +55,8 @@ flat-made told queue m held v case is under none past = record {
 -- it stands for the opening state of each world that the tree may hold
 pub made-stands : {V : Type 0} (at : V → Path → ℕ) (count : V → ℕ) (told : TreeTold) (queue : ℕ) (m : Parts V) → IsMade at count told queue m → (s : State) → IsOpeningOf queue told s → Stands at count m s
 made-stands {V} at count told queue m made s h =
-    let at_first : Stands at count (opening_parts told queue made.held made.versions) (opening told.case queue s.world) = record {
-      case = made.case;
-      world = λ w e. subst (λ (c : Case). IsSameBelow c s.world [] w []) made.case (h.world w e);
-      pending = refl;
-      retained = sym made.none;
-      past = made.past;
-      scans = slots-closed made.held.case [] 16;
-      kept = refl;
-    } in
+    let same : ((w : World) → told.content ≡ Some w → IsSameBelow made.held.case s.world [] w []) = λ w e. subst (λ (c : Case). IsSameBelow c s.world [] w []) made.case (h.world w e) in
+    let at_first = opening-over at count told queue made.held made.versions s.world made.case same made.none made.past in
     subst (λ (t : State). Stands at count m t) (sym h.is) (subst (λ (p : Parts V). Stands at count p (opening told.case queue s.world)) (sym made.is) at_first)
 
 -- it tells what the tree told

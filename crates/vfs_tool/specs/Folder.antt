@@ -1,5 +1,5 @@
 -- What a run over a tree that is handed in puts, by what that tree answered.
-use Rattle.std.specs.Prelude.{◌≡◌, ◌≢◌, ℕ, Bool, true, false, List, [], ◌++◌, Option, Some, is_some}
+use Rattle.std.specs.Prelude.{◌≡◌, ◌≢◌, ℕ, Bool, true, false, List, [], ◌++◌, Some, is_some}
 use Rattle.std.specs.List.{AllByRecursion as Each}
 use Rattle.vfs_model.specs.declared.Case.{Case}
 use Rattle.vfs_model.specs.World.{World, IsSameBelow}
@@ -17,10 +17,6 @@ use Rattle.script_runs.specs.CourseReport.{opening_course, lines_over, course_af
 use Rattle.vfs_tool.specs.Input.{TakesAll}
 
 -- ---- trees
-
--- the tree tells its content, and has no fault to count
-abbrev pub TellsWhole : ℕ → TreeTold → Type 0
-TellsWhole most told = (is_some told.content ≡ true) × (most ≡ 0)
 
 -- the tree tells that it has its root alone, and has no fault to count
 abbrev pub IsEmptyTree : ℕ → TreeTold → Type 0

@@ -5,6 +5,7 @@ use crate::run::run;
 use crate::status::Status;
 use crate::tests::words_of;
 use case_order::Case;
+use mem_tree::{FailingTree, MemTree};
 use merkle_hash::Bytes;
 use std::alloc::Global;
 use std::process::Abort;
@@ -13,7 +14,7 @@ use std::thread::Threads;
 use std::{fs, io};
 use vfs_io::{FolderTree, MemSink, MemSource};
 use vfs_path::Path;
-use world_model::{Edit, Entry, FailingTree, MemTree, Tree};
+use world_model::{Edit, Entry, Tree};
 
 /// Runs the script with these words over the tree, compares what is written, and gives the tree back.
 fn assert_over<T: Tree + Drop>(

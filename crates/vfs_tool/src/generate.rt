@@ -10,12 +10,12 @@ ghost use Rattle.vfs_tool.specs.Gen.{summary, GenEnds};
 use crate::run::run_over;
 use crate::status::Status;
 use case_order::NoMemory;
+use mem_tree::MemTree;
 use script_summary::{generated_script, summary_line};
 use script_text::Script;
 use std::alloc::Global;
 use std::thread::Threads;
 use vfs_io::{Failed, MemSink, Sink};
-use world_model::MemTree;
 
 /// A sink in memory with what the script prints, which is run over an empty tree.
 ///

@@ -16,13 +16,15 @@ ghost use Rattle.vfs_tool.specs.declared.forms.Form.{Form};
 ghost use Rattle.vfs_tool.specs.Forms.{IsReplay, IsFolder, IsGen, IsForm};
 ghost use Rattle.vfs_tool.specs.Gen.{GenEnds};
 ghost use Rattle.vfs_tool.specs.Run.{PutsReport, PutsPrefix, PutsLines, Reports, ReportsPrefix, ReportsLines, Answers, IsUnrun};
-ghost use Rattle.vfs_tool.specs.Folder.{TellsWhole, IsEmptyTree, PutsOver, BreaksScript, PutsTextOver, BreaksText, ReportsOver, BreaksReport};
+ghost use Rattle.world_model.specs.Told.{TellsWhole};
+ghost use Rattle.vfs_tool.specs.Folder.{IsEmptyTree, PutsOver, BreaksScript, PutsTextOver, BreaksText, ReportsOver, BreaksReport};
 
 use crate::forms::{Form, form_of};
 use crate::generate::run_gen;
 use crate::input::{Stop, take_all};
 use crate::status::Status;
 use case_order::Case;
+use mem_tree::MemTree;
 use script_reader::{Line, Script, ScriptError, read_script};
 use script_runs::{Break, put_openings, run_lines};
 use snapshot_hierarchy::FlatRetain;
@@ -31,7 +33,7 @@ use std::thread::Threads;
 use version_hierarchy::FlatVersions;
 use vfs_io::{Sink, Source};
 use vfs_machine::Machine;
-use world_model::{MemTree, Settings, Tree};
+use world_model::{Settings, Tree};
 
 /// Runs the command lines over the tree, with nothing pending and nothing retained, and gives the tree
 /// back. Names compare by the case that the tree has.

@@ -3,6 +3,7 @@
 use crate::run::run;
 use crate::status::Status;
 use case_order::Case;
+use mem_tree::MemTree;
 use script_reader::{BadLine, Cause};
 use std::alloc::Global;
 use std::process::Abort;
@@ -10,7 +11,6 @@ use std::test::Fail;
 use std::thread::Threads;
 use vfs_io::{MemSink, MemSource, Source};
 use vfs_path::PathError;
-use world_model::MemTree;
 
 /// What a run answered, what it wrote, and how many bytes it left.
 #[derive(Drop)]

@@ -1,14 +1,4 @@
 pub mod Told
 pub mod Meaning
 pub mod Front
-pub mod Held
-pub mod AnswerCode
-pub mod Given
-pub mod Failing
-pub mod FileTree
-pub mod TreeCode
-pub mod Nodes
-pub mod Found
-pub mod Falls
-pub mod Refused
 pub mod Defaults

@@ -1,5 +1,5 @@
 -- What a tree tells of itself.
-use Rattle.std.specs.Prelude.{◌≡◌, ◌≢◌, ℕ, Bool, true, false, ◌||◌, List, [], ◌++◌, Option, Some, None}
+use Rattle.std.specs.Prelude.{◌≡◌, ◌≢◌, ℕ, Bool, true, false, ◌||◌, List, [], ◌++◌, Option, Some, None, is_some}
 use Rattle.std.specs.List.{list_all}
 use Rattle.vfs_model.specs.declared.Case.{Case}
 use Rattle.vfs_model.specs.declared.Case.TheVariants.{Sensitive, Insensitive}
@@ -13,6 +13,10 @@ pub record TreeTold : Type 0 where
   pub content : Option World
   pub faults : ℕ
   pub answers : Option (List TreeAnswer)
+
+-- the tree tells its content, and has no fault to count
+abbrev pub TellsWhole : ℕ → TreeTold → Type 0
+TellsWhole most told = (is_some told.content ≡ true) × (most ≡ 0)
 
 -- the answers, and these behind them
 abbrev pub with_answers : List TreeAnswer → List TreeAnswer → List TreeAnswer

@@ -1,0 +1,38 @@
+use Rattle.std.proofs.Common.{◌≡◌, false, Some, ◌∙◌, sym, ap}
+use Rattle.std.proofs.lemmas.Result.{err_from_is_err_and}
+use Rattle.vfs_model.specs.Paths.{folded_name, place}
+use Rattle.vfs_model.specs.Edit.{is_root, parent}
+use Rattle.mem_tree.specs.FileTree.{Branch, child, at_root}
+use Rattle.mem_tree.specs.Refused.{no_directory}
+use Rattle.mem_tree.specs.Nodes.{named_of, tree_of_node}
+use Rattle.mem_tree.proofs.TreeLemmas.{not-root}
+use Rattle.mem_tree.proofs.RefusalLemmas.{write-no_directory, write-new, write-file, write-directory}
+use Rattle.mem_tree.proofs.refuse.check_write.Goals as goal
+
+pub returns-in_err-directory : goal.returns-in_err-directory
+returns-in_err-directory c =
+    λ bytes.
+    let below : is_root c.args.path.now ≡ false = not-root c.args.path.now (sym c.is_empty.ensures ∙ c.if-is_empty.false) in
+    let p = err_from_is_err_and c.from_residual.result c.from_residual.ensures.1 in
+    rw (p.1, p.2) (write-no_directory c.args.case c.args.root.now c.args.path.now bytes _ c.requires below (ap (λ x. no_directory (at_root c.args.case c.args.root.now (place c.args.case x))) (sym c.parent.ensures) ∙ c.in_err-directory.ensures.refused))
+
+pub returns-in-None : goal.returns-in-None
+returns-in-None c =
+    λ bytes.
+    let below : is_root c.args.path.now ≡ false = not-root c.args.path.now (sym c.is_empty.ensures ∙ c.if-is_empty.false) in
+    let dir : at_root c.args.case c.args.root.now (place c.args.case (parent c.args.path.now)) ≡ Some (Branch c.in_ok-directory.directory.now) = ap (λ x. at_root c.args.case c.args.root.now (place c.args.case x)) (sym c.parent.ensures) ∙ c.in_ok-directory.ensures.found in
+    c.refuse_if.ensures ∙ write-new c.args.case c.args.root.now c.in_ok-directory.directory.now c.args.path.now bytes c.is_full.result c.requires below dir (c.in-None.ensures.child ∙ ap (λ n. child c.args.case c.in_ok-directory.directory.now (folded_name c.args.case n)) c.last.ensures) c.is_full.ensures
+
+pub returns-in-File : goal.returns-in-File
+returns-in-File c =
+    λ bytes.
+    let below : is_root c.args.path.now ≡ false = not-root c.args.path.now (sym c.is_empty.ensures ∙ c.if-is_empty.false) in
+    let dir : at_root c.args.case c.args.root.now (place c.args.case (parent c.args.path.now)) ≡ Some (Branch c.in_ok-directory.directory.now) = ap (λ x. at_root c.args.case c.args.root.now (place c.args.case x)) (sym c.parent.ensures) ∙ c.in_ok-directory.ensures.found in
+    write-file c.args.case c.args.root.now c.in_ok-directory.directory.now c.args.path.now bytes c.in-File.field-0 (named_of c.in-Some.child.now) c.requires below dir (c.in-Some.ensures.child ∙ ap (λ n. child c.args.case c.in_ok-directory.directory.now (folded_name c.args.case n)) c.last.ensures) (ap tree_of_node c.in-File.is)
+
+pub returns-in-Dir : goal.returns-in-Dir
+returns-in-Dir c =
+    λ bytes.
+    let below : is_root c.args.path.now ≡ false = not-root c.args.path.now (sym c.is_empty.ensures ∙ c.if-is_empty.false) in
+    let dir : at_root c.args.case c.args.root.now (place c.args.case (parent c.args.path.now)) ≡ Some (Branch c.in_ok-directory.directory.now) = ap (λ x. at_root c.args.case c.args.root.now (place c.args.case x)) (sym c.parent.ensures) ∙ c.in_ok-directory.ensures.found in
+    write-directory c.args.case c.args.root.now c.in_ok-directory.directory.now c.args.path.now bytes c.in-Dir.field-0 (named_of c.in-Some.child.now) c.requires below dir (c.in-Some.ensures.child ∙ ap (λ n. child c.args.case c.in_ok-directory.directory.now (folded_name c.args.case n)) c.last.ensures) (ap tree_of_node c.in-Dir.is)

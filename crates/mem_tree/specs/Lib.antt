@@ -1,0 +1,10 @@
+pub mod Held
+pub mod AnswerCode
+pub mod Given
+pub mod Failing
+pub mod FileTree
+pub mod TreeCode
+pub mod Nodes
+pub mod Found
+pub mod Falls
+pub mod Refused
