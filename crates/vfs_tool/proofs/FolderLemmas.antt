@@ -1,5 +1,5 @@
 -- A script as a whole, over what a tree that was handed in answered.
-use Rattle.std.proofs.Common.{◌≡◌, ℕ, ◌≤◌, List, [], ◌++◌, Bool, true, false, Option, Some, None, refl, sym, ap, subst, ◌∙◌, append_assoc, append-nil}
+use Rattle.std.proofs.Common.{◌≡◌, ℕ, ◌≤◌, List, [], ◌++◌, Bool, true, false, Option, Some, None, refl, sym, ap, subst, ◌∙◌, append_assoc}
 use Rattle.vfs_model.specs.declared.Case.{Case}
 use Rattle.vfs_model.specs.World.{World, IsSameBelow}
 use Rattle.vfs_model.specs.State.{State, TreeAnswer}
@@ -116,17 +116,17 @@ broke-early-over takes_no_edits script old set took a b e case is broke = record
       breaks-before e a b (opening_lines script took x) (command_lines script took x) (broke.1 more x (course-met script old set took world (broke.0 ++ more) is holds));
 }
 
--- all lines were put, in a world that the tree may hold
+-- all lines were put, in a world that the tree may hold and whatever would have come behind the answers
 both-put : (script : Script) (old set opened new : TreeTold) (took : Bool) (a b c : SinkTold) → IsCaseSet old set script.settings.case took
     → (first : RunsOver (opening_over took) (IsOpeningOf script.settings.queue set) (IsOpeningOf script.settings.queue opened) set opened script.opening a b) (second : RunsOver printed_over (IsOpeningOf script.settings.queue opened) (λ s. s.case ≡ new.case) opened new script.lines b c)
-    → (world : World) → MayHold (case_of script old took) old world
-    → PutsEach a c (lines_over script took (course_over script old took world (first.asked ++ second.asked))) × Meets (λ s. s.case ≡ new.case) new [] (course_after script took (course_over script old took world (first.asked ++ second.asked)))
-both-put script old set opened new took a b c is first second world holds =
-    let all = first.asked ++ second.asked in
-    let x = course_over script old took world all in
-    let met = met-as (IsOpeningOf script.settings.queue set) set all (first.asked ++ (second.asked ++ [])) x (sym (ap (λ (l : List TreeAnswer). first.asked ++ l) (append-nil second.asked))) (course-met script old set took world all is holds) in
-    let one = first.runs (second.asked ++ []) x met in
-    let two = second.runs [] (course_opened script took x) one.1 in
+    → (world : World) → MayHold (case_of script old took) old world → (more : List TreeAnswer)
+    → PutsEach a c (lines_over script took (course_over script old took world ((first.asked ++ second.asked) ++ more))) × Meets (λ s. s.case ≡ new.case) new more (course_after script took (course_over script old took world ((first.asked ++ second.asked) ++ more)))
+both-put script old set opened new took a b c is first second world holds more =
+    let coming = (first.asked ++ second.asked) ++ more in
+    let x = course_over script old took world coming in
+    let met = met-as (IsOpeningOf script.settings.queue set) set coming (first.asked ++ (second.asked ++ more)) x (append_assoc first.asked second.asked more) (course-met script old set took world coming is holds) in
+    let one = first.runs (second.asked ++ more) x met in
+    let two = second.runs more (course_opened script took x) one.1 in
     (more-put a b c (opening_lines script took x) (command_lines script took x) one.0 two.0, two.1)
 
 -- and so in each of them
@@ -136,16 +136,16 @@ pub all-put-over : (takes_no_edits : Bool) (script : Script) (old set opened new
 all-put-over takes_no_edits script old set opened new took a b c case is first second =
     let all = first.asked ++ second.asked in
     let some = some-world (case_of script old took) old in
-    let there = both-put script old set opened new took a b c is first second some.0 some.1 in
+    let there = both-put script old set opened new took a b c is first second some.0 some.1 [] in
     let answered = Answered-then old set new [] all (answered-set old set script.settings.case took is) (Answered-then set opened new first.asked second.asked first.answered second.answered) in
     record {
       took = took;
       set = case;
-      case = sym there.1.at_state ∙ script-case script took (course_over script old took some.0 all);
+      case = sym there.1.at_state ∙ script-case script took (course_over script old took some.0 (all ++ []));
       answers = all;
       answered = answered;
-      puts = λ world holds.
-          let put = both-put script old set opened new took a b c is first second world holds in
+      puts = λ world holds more.
+          let put = both-put script old set opened new took a b c is first second world holds more in
           record { lines = put.0; spent = put.1.coming; due = λ tells. put.1.due (answered.tells ∙ tells) };
     }
 

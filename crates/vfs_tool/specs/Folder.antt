@@ -47,20 +47,20 @@ case_of script told took = case_after took told.case script.settings.case
 abbrev pub course_over : Script → TreeTold → Bool → World → List TreeAnswer → Course
 course_over script told took world answers = opening_course (case_of script told took) script.settings.queue world answers
 
--- in this world the report on the script over the answers was put, each line by a call of its own, all of them were taken, and where the tree tells its content, each was the one that was due, or a look that failed
-pub record PutsIn (told : TreeTold) (script : Script) (took : Bool) (answers : List TreeAnswer) (before after : SinkTold) (world : World) : Type 0 where
-  pub lines : PutsEach before after (lines_over script took (course_over script told took world answers))
-  pub spent : (course_after script took (course_over script told took world answers)).coming ≡ []
-  pub due : is_some told.content ≡ true → Each IsDue (course_after script took (course_over script told took world answers)).asked
+-- in this world, and with these further answers behind those of the run, the report on the script was put, each line by a call of its own, exactly the answers of the run were taken, and where the tree tells its content, each was the one that was due, or a look that failed
+pub record PutsIn (told : TreeTold) (script : Script) (took : Bool) (answers more : List TreeAnswer) (before after : SinkTold) (world : World) : Type 0 where
+  pub lines : PutsEach before after (lines_over script took (course_over script told took world (answers ++ more)))
+  pub spent : (course_after script took (course_over script told took world (answers ++ more))).coming ≡ more
+  pub due : is_some told.content ≡ true → Each IsDue (course_after script took (course_over script told took world (answers ++ more))).asked
 
--- the tree was asked to take the script's case, and has the case of the run at the end; it gave these answers to the edits and looks of the run, and in each world that it may hold the report over them was put
+-- the tree was asked to take the script's case, and has the case of the run at the end; it gave these answers to the edits and looks of the run, and whatever would have come behind them, in each world that it may hold the report over them was put
 pub record PutsOver (takes_no_edits : Bool) (old new : TreeTold) (script : Script) (before after : SinkTold) : Type 0 where
   pub took : Bool
   pub set : AnswersCase takes_no_edits old script.settings.case took
   pub case : new.case ≡ case_of script old took
   pub answers : List TreeAnswer
   pub answered : Answered old new answers
-  pub puts : (world : World) → MayHold (case_of script old took) old world → PutsIn old script took answers before after world
+  pub puts : (world : World) → MayHold (case_of script old took) old world → (more : List TreeAnswer) → PutsIn old script took answers more before after world
 
 -- the tree was asked to take the script's case, it gave these answers, and whatever would have come behind them, in each world that it may hold the report broke off
 pub record BreaksScript (takes_no_edits : Bool) (old : TreeTold) (script : Script) (before after : SinkTold) (e : Break) : Type 0 where
