@@ -1,4 +1,5 @@
-//! The digests of contents, on several threads.
+//! The digests of contents, on several threads: [`digests`] of contents that are all there, and
+//! [`Ahead`] of those that come one after the other.
 //!
 //! What the threads give is put together in the order of the contents, so that their number is never
 //! seen in an answer.
@@ -13,8 +14,11 @@ use std::alloc::Global;
 use std::thread;
 use std::thread::Threads;
 
+mod ahead;
 #[cfg(test)]
 mod tests;
+
+pub use ahead::Ahead;
 
 /// The digests of a run of contents, one after the other.
 fn digests_in_turn(alloc: Global, contents: &[Bytes]) -> Result<Vec<Digest>, NoMemory>

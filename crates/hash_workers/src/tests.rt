@@ -1,6 +1,7 @@
 //! Digests by workers of several numbers, against those of RFC 1321 and of Python's `hashlib`.
 
-use crate::digests;
+use crate::{Ahead, digests};
+use case_order::Share;
 use merkle_hash::{Bytes, Digest, file_digest};
 use std::alloc::Global;
 use std::process::Abort;
@@ -82,5 +83,43 @@ fn hashes_the_same_by_any_number_of_workers(rt: HostRuntime) -> Result<(), Fail>
             "by {workers}"
         );
     }
+    Ok(())
+}
+
+#[test]
+fn hashes_ahead_the_same_by_any_number_of_workers(rt: HostRuntime) -> Result<(), Fail> {
+    let alloc = rt.alloc();
+    for workers in [0, 1, 3, 16] {
+        let mut ahead = Ahead::new(alloc);
+        let mut contents = Vec::new(alloc);
+        // More batches than workers, of none to four contents.
+        for i in 0..40usize {
+            let mut batch = Vec::new(alloc);
+            for j in 0..i % 5 {
+                let bytes = vec![in alloc; i as u8; 100 * j]?;
+                let one = content(alloc, bytes.as_slice())?;
+                batch.push(one.share()?)?;
+                contents.push(one)?;
+            }
+            ahead.hash(&rt, alloc, batch, workers)?;
+        }
+        let found = ahead.into_digests(&rt)?;
+        let wanted = digests(&rt, alloc, contents.as_slice(), 1)?;
+        assert_eq!(rt; found.len(), 80, "by {workers}");
+        assert_eq!(rt; wanted.len(), 80);
+        for (digest, want) in found.as_slice().iter().zip(wanted.as_slice()) {
+            assert_eq!(rt;
+                digest.to_hex().as_slice(),
+                want.to_hex().as_slice(),
+                "by {workers}"
+            );
+        }
+    }
+    Ok(())
+}
+
+#[test]
+fn nothing_handed_over_has_no_digests(rt: HostRuntime) -> Result<(), Fail> {
+    assert_eq!(rt; Ahead::new(rt.alloc()).into_digests(&rt)?.len(), 0);
     Ok(())
 }
