@@ -1,6 +1,8 @@
 -- Where each answer was the one that was due and no look failed, a course goes as the world would have it.
-use Rattle.std.proofs.Common.{◌≡◌, ◌≢◌, ℕ, zero, suc, ◌+◌, ◌<◌, Bool, true, false, List, [], ◌∷◌, ◌++◌, length, map, Option, Some, None, refl, sym, ap, subst, ◌∙◌, append_assoc, append-nil, add-one, arith}
-use Rattle.std.specs.List.{AllByRecursion as Each}
+use Rattle.std.proofs.Common.{◌≡◌, ◌≢◌, ℕ, zero, suc, ◌+◌, ◌<◌, Bool, true, false, List, [], ◌∷◌, ◌++◌, length, map, drop, Option, Some, None, refl, sym, ap, subst, ◌∙◌, append_assoc, append-nil, add-one, arith, if◌then◌else◌}
+use Rattle.std.proofs.lemmas.Bool.{true≢false}
+use Rattle.std.proofs.lemmas.List.Sums.{sum_by-append}
+use Rattle.std.specs.List.{AllByRecursion as Each, count_by}
 use Rattle.vfs_laws.proofs.Splits.{split}
 use Rattle.vfs_model.specs.declared.Case.{Case}
 use Rattle.vfs_model.specs.Paths.{Path}
@@ -9,7 +11,7 @@ use Rattle.vfs_model.specs.Edit.{Edit as TreeEdit, Refusal, refusal}
 use Rattle.vfs_model.specs.Snapshot.{Snapshot}
 use Rattle.vfs_model.specs.Scanning.{Scan as ScanInProgress, Look, next_left}
 use Rattle.vfs_model.specs.Fingerprint.{Input}
-use Rattle.vfs_model.specs.State.{State, Call, CallEdit, CallBegin, CallRead, AllRead, Fault, Outcome, TreeAnswer, EditAnswer, IsLookAt, IsLookFor, edit_by, edit_answer_or, read_or, read_next, look_due, look_due_at, scan_of, step, told_step}
+use Rattle.vfs_model.specs.State.{State, Call, CallEdit, CallBegin, CallRead, Done, Overflow, AllRead, Fault, Outcome, TreeAnswer, ToEdit, ToLook, EditAnswer, Refuses, Does, all_fit, IsLookAt, IsLookFor, edit_by, edit_answer_or, read_or, read_next, look_due, look_due_at, scan_of, step, told_step}
 use Rattle.vfs_model.specs.History.{opening}
 use Rattle.vfs_model.specs.Sound.{IsSound}
 use Rattle.fingerprint_norms.specs.Meaning.{input_of}
@@ -29,7 +31,7 @@ use Rattle.script_runs.specs.Calls.{settled, published_after, scanned_or}
 use Rattle.script_runs.specs.Building.{Built, part_at, after_root, after_input, after_inputs, fingerprinted, built}
 use Rattle.script_runs.specs.Taking.{built_in}
 use Rattle.script_runs.specs.Report.{opening_edit, edited_unless, printed_edit, printed_opening, printed_for, printed, lines_in}
-use Rattle.script_runs.specs.Course.{Course, Question, IsTrueAnswer, AllTrue, has_left, asks, first_answers, at_state, after_call, turn}
+use Rattle.script_runs.specs.Course.{Course, Question, IsFitting, IsDue, answers_by, fits, is_failed, has_left, asks, first_answer, first_answers, at_state, past_question, after_call, turn}
 use Rattle.script_runs.specs.CourseReport.{Reads, Gathered, none_seen, one_more, reads_from, reads_within, reads_of, read_unless, read_in, begun, scan_ended, scanned_over, root_left, with_miss, root_taken, input_taken, next_taken, inputs_taken, none_taken, gathered, build_ended, built_over, over_for, printed_over, opened, opening_by, opening_over, opening_course, course_opened, lines_over, course_after}
 use Rattle.script_runs.proofs.ReadLemmas.{or-stays, ends-once}
 use Rattle.script_runs.proofs.ScannedLemmas.{ends-after-reads}
@@ -40,20 +42,91 @@ use Rattle.script_runs.proofs.TurnLemmas.{open-unlooked}
 use Rattle.script_runs.proofs.OverReadLemmas.{saw-takes, blind}
 use Rattle.script_runs.proofs.OverBuildLemmas.{length-none, length-less, call-state}
 
+-- ---- answers that are true
+
+-- the answer is not that of a look that failed
+abbrev has_failed : Option TreeAnswer → Bool
+has_failed None = false
+has_failed (Some answer) = is_failed answer
+
+abbrev IsSeen : Option TreeAnswer → Type 0
+IsSeen answer = has_failed answer ≡ false
+
+-- the answer is the one that is due in the world, and it is no look that failed
+record IsTrueAnswer (q : Question) : Type 0 where
+  due : IsDue q
+  seen : (step (answers_by q.answer) q.state q.call).reply ≢ Fault
+
+abbrev AllTrue : Course → Type 0
+AllTrue c = Each IsTrueAnswer c.asked
+
+-- an edit is not told as a look that failed
+edit-seen : (s : State) (edit : TreeEdit) (answer : EditAnswer) → (edit_by s edit answer).reply ≢ Fault
+edit-seen s edit (Refuses cause) e = cc
+edit-seen s edit (Does told) e = fit-seen (all_fit told s.pending) e
+  where
+    fit-seen : (fit : Bool) → (if fit then Done else Overflow) ≢ Fault
+    fit-seen true e = cc
+    fit-seen false e = cc
+
+next-seen : (s : State) (k : ℕ) (scan : ScanInProgress) (y : Option Path) (look : Look) → (read_next s k scan y (Some look)).reply ≢ Fault
+next-seen s k scan None look e = cc
+next-seen s k scan (Some y) look e = cc
+
+read-seen : (s : State) (k : ℕ) (o : Option ScanInProgress) (look : Look) → (read_or s k o (Some look)).reply ≢ Fault
+read-seen s k None look e = cc
+read-seen s k (Some scan) look e = next-seen s k scan (next_left scan.partial) look e
+
+-- an answer of the kind that was asked for, and none of a look that failed, is not told as one
+fit-seen : (s : State) (call : Call) (answer : Option TreeAnswer) → fits call answer ≡ true → IsSeen answer → (step (answers_by answer) s call).reply ≢ Fault
+fit-seen s (CallEdit edit) (Some (ToEdit answer)) fit seen = edit-seen s edit answer
+fit-seen s (CallRead k) (Some (ToLook (Some look))) fit seen = read-seen s k (scan_of s k) look
+fit-seen s (CallRead k) (Some (ToLook None)) fit seen = absurd (true≢false seen)
+fit-seen s call answer fit seen = absurd (true≢false (sym fit))
+
+all-true : (asked : List Question) → Each IsFitting asked → Each IsDue asked → Each (λ q. IsSeen q.answer) asked → Each IsTrueAnswer asked
+all-true [] fitting due seen = tt
+all-true (q ∷ asked) fitting due seen = (record { due = due.0; seen = fit-seen q.state q.call q.answer fitting.0 seen.0 }, all-true asked fitting.1 due.1 seen.1)
+
 -- ---- what was asked
 
--- the later course was asked what the earlier was, and then more
+-- no answer that is to come is that of a look that failed
+abbrev AllSeen : List TreeAnswer → Type 0
+AllSeen coming = Each (λ answer. IsSeen (Some answer)) coming
+
+one-seen : (answer : TreeAnswer) (n : ℕ) → count_by is_failed (answer ∷ []) + n ≡ 0 → (is_failed answer ≡ false) × (n ≡ 0)
+one-seen (ToEdit answer) n h = (refl, omega (arith, h))
+one-seen (ToLook (Some look)) n h = (refl, omega (arith, h))
+one-seen (ToLook None) n h = absurd (omega (arith, h))
+
+all-seen : (answers : List TreeAnswer) → count_by is_failed answers ≡ 0 → AllSeen answers
+all-seen [] h = tt
+all-seen (answer ∷ more) h =
+    let both : count_by is_failed (answer ∷ more) ≡ count_by is_failed (answer ∷ []) + count_by is_failed more = sum_by-append _ (answer ∷ []) more in
+    let one = one-seen answer (count_by is_failed more) (sym both ∙ h) in
+    (one.0, all-seen more one.1)
+
+-- the later course was asked what the earlier was, and then more; where no answer that was to come is that of a look that failed, none is that was given since, or is still to come
 record AskedMore (c d : Course) : Type 0 where
   more : List Question
   is : d.asked ≡ c.asked ++ more
+  seen : AllSeen c.coming → AllSeen d.coming × Each (λ q. IsSeen q.answer) more
 
-asked-same : (c d : Course) → d.asked ≡ c.asked → AskedMore c d
-asked-same c d e = record { more = []; is = e ∙ sym (append-nil c.asked) }
+asked-same : (c d : Course) → d.asked ≡ c.asked → d.coming ≡ c.coming → AskedMore c d
+asked-same c d asked coming = record { more = []; is = asked ∙ sym (append-nil c.asked); seen = λ h. (subst AllSeen (sym coming) h, tt) }
+
+each-both : {X : Type 0} (P : X → Type 0) (xs ys : List X) → Each P xs → Each P ys → Each P (xs ++ ys)
+each-both P [] ys h k = k
+each-both P (x ∷ xs) ys h k = (h.0, each-both P xs ys h.1 k)
 
 asked-then : (c d e : Course) → AskedMore c d → AskedMore d e → AskedMore c e
 asked-then c d e a b = record {
   more = a.more ++ b.more;
   is = b.is ∙ ap (λ (l : List Question). l ++ b.more) a.is ∙ append_assoc c.asked a.more b.more;
+  seen = λ h.
+      let one = a.seen h in
+      let two = b.seen one.0 in
+      (two.0, each-both (λ q. IsSeen q.answer) a.more b.more one.1 two.1);
 }
 
 each-front : {X : Type 0} (P : X → Type 0) (xs ys : List X) → Each P (xs ++ ys) → Each P xs
@@ -70,9 +143,20 @@ all-before c d m all = each-front IsTrueAnswer c.asked m.more (subst (Each IsTru
 
 -- ---- one call
 
+seen-first : (coming : List TreeAnswer) → AllSeen coming → AllSeen (drop 1 coming) × IsSeen (first_answer coming)
+seen-first [] h = (tt, refl)
+seen-first (answer ∷ more) h = (h.1, h.0)
+
+question-more : (c : Course) (call : Call) (s : State) → AskedMore c (past_question c call s)
+question-more c call s = record {
+  more = record { state = c.state; call = call; answer = first_answer c.coming } ∷ [];
+  is = refl;
+  seen = λ h. let one = seen-first c.coming h in (one.0, (one.1, tt));
+}
+
 after-more : (asked : Bool) (c : Course) (call : Call) (s : State) → AskedMore c (after_call asked c call s)
-after-more true c call s = record { more = record { state = c.state; call = call; answers = first_answers c.coming } ∷ []; is = refl }
-after-more false c call s = asked-same c (at_state c s) refl
+after-more true c call s = question-more c call s
+after-more false c call s = asked-same c (at_state c s) refl refl
 
 turn-more : (c : Course) (call : Call) → AskedMore c (turn c call).course
 turn-more c call = after-more (asks c.state call) c call (step (first_answers c.coming) c.state call).state
@@ -90,14 +174,14 @@ look-for s k (Some scan) l h seen = look-at s k scan (next_left scan.partial) l 
 read-due : (c : Course) (k : ℕ) (left : Bool) → has_left (scan_of c.state k) ≡ left → AllTrue (after_call left c (CallRead k) (step (first_answers c.coming) c.state (CallRead k)).state)
     → step (first_answers c.coming) c.state (CallRead k) ≡ told_step c.state (CallRead k)
 read-due c k true e all =
-    let q = each-end IsTrueAnswer c.asked (record { state = c.state; call = CallRead k; answers = first_answers c.coming }) all in
+    let q = each-end IsTrueAnswer c.asked (record { state = c.state; call = CallRead k; answer = first_answer c.coming }) all in
     look-for c.state k (scan_of c.state k) (first_answers c.coming).look q.due q.seen
 read-due c k false e all = open-unlooked c.state k (scan_of c.state k) (first_answers c.coming).look (look_due c.state (scan_of c.state k)) e
 
 -- a call whose answer is true has the outcome that is due in the world
 turn-due : (c : Course) (call : Call) → AllTrue (turn c call).course → step (first_answers c.coming) c.state call ≡ told_step c.state call
 turn-due c (CallEdit edit) all =
-    let q = each-end IsTrueAnswer c.asked (record { state = c.state; call = CallEdit edit; answers = first_answers c.coming }) all in
+    let q = each-end IsTrueAnswer c.asked (record { state = c.state; call = CallEdit edit; answer = first_answer c.coming }) all in
     ap (edit_by c.state edit) q.due
 turn-due c (CallRead k) all = read-due c k (has_left (scan_of c.state k)) refl all
 turn-due c _ all = refl
@@ -188,7 +272,7 @@ abbrev scan_read : ℕ → Path → Course → Reads
 scan_read k p c = reads_of k (begun k p c)
 
 scan_read-more : (k : ℕ) (p : Path) (c : Course) → AskedMore c (scan_read k p c).course
-scan_read-more k p c = asked-then c (begun k p c) (scan_read k p c).course (asked-same c (begun k p c) refl) (within-more (length c.coming) k (begun k p c))
+scan_read-more k p c = asked-then c (begun k p c) (scan_read k p c).course (asked-same c (begun k p c) refl refl) (within-more (length c.coming) k (begun k p c))
 
 all-read : (k : ℕ) (p : Path) (c : Course) → AreShort c.state.world → k < length c.state.scans → scan_of c.state k ≡ None → AllTrue (scan_read k p c).course → IsReadWhole k p c.state (scan_read k p c)
 all-read k p c short within closed all =
@@ -213,11 +297,15 @@ ended-asked : (k : ℕ) (c : Course) (o : Option ℕ) → (scan_ended k c o).sta
 ended-asked k c None = refl
 ended-asked k c (Some n) = refl
 
+ended-coming : (k : ℕ) (c : Course) (o : Option ℕ) → (scan_ended k c o).state.coming ≡ c.coming
+ended-coming k c None = refl
+ended-coming k c (Some n) = refl
+
 scan-more : (k : ℕ) (p : Path) (c : Course) (o : Option ScanInProgress) → AskedMore c (scanned_over k p c o).state
-scan-more k p c (Some scan) = asked-same c (scanned_over k p c (Some scan)).state refl
+scan-more k p c (Some scan) = asked-same c (scanned_over k p c (Some scan)).state refl refl
 scan-more k p c None =
     let r = scan_read k p c in
-    asked-then c r.course (scanned_over k p c None).state (scan_read-more k p c) (asked-same r.course (scan_ended k r.course (read_in r)).state (ended-asked k r.course (read_in r)))
+    asked-then c r.course (scanned_over k p c None).state (scan_read-more k p c) (asked-same r.course (scan_ended k r.course (read_in r)).state (ended-asked k r.course (read_in r)) (ended-coming k r.course (read_in r)))
 
 scan-due : (k : ℕ) (p : Path) (c : Course) (o : Option ScanInProgress) → scan_of c.state k ≡ o → AreShort c.state.world → k < length c.state.scans → AllTrue (scanned_over k p c o).state → PrintsSame (scanned_over k p c o) (scanned_or c.state k p o)
 scan-due k p c (Some scan) here short within all = record { text = refl; state = refl }
@@ -236,18 +324,22 @@ left-asked : (k : ℕ) (c : Course) (o : Option ℕ) → (root_left k c o).asked
 left-asked k c None = refl
 left-asked k c (Some n) = refl
 
+left-coming : (k : ℕ) (c : Course) (o : Option ℕ) → (root_left k c o).coming ≡ c.coming
+left-coming k c None = refl
+left-coming k c (Some n) = refl
+
 root-more : (k : ℕ) (root : Path) (j : Counts) (c : Course) (o : Option Snapshot) → AskedMore c (root_taken k root j c o).course
-root-more k root j c (Some part) = asked-same c c refl
+root-more k root j c (Some part) = asked-same c c refl refl
 root-more k root j c None =
     let r = scan_read k root c in
-    asked-then c r.course (root_left k r.course (read_in r)) (scan_read-more k root c) (asked-same r.course (root_left k r.course (read_in r)) (left-asked k r.course (read_in r)))
+    asked-then c r.course (root_left k r.course (read_in r)) (scan_read-more k root c) (asked-same r.course (root_left k r.course (read_in r)) (left-asked k r.course (read_in r)) (left-coming k r.course (read_in r)))
 
 next-more : (k : ℕ) (i : Input) (c : Course) (o : Option Counts) → AskedMore c (next_taken k i c o).course
-next-more k i c None = asked-same c c refl
+next-more k i c None = asked-same c c refl refl
 next-more k i c (Some j) = root-more k i.root j c (part_at c.state i.root)
 
 inputs-more : (k : ℕ) (g : Gathered) (inputs : List Input) → AskedMore g.course (inputs_taken k g inputs).course
-inputs-more k g [] = asked-same g.course g.course refl
+inputs-more k g [] = asked-same g.course g.course refl refl
 inputs-more k g (i ∷ more) =
     let next = next_taken k i g.course g.counts in
     asked-then g.course next.course (inputs_taken k next more).course (next-more k i g.course g.counts) (inputs-more k next more)
@@ -293,14 +385,18 @@ build_ended-asked : (inputs : List Input) (c : Course) (o : Option Counts) → (
 build_ended-asked inputs c None = refl
 build_ended-asked inputs c (Some j) = refl
 
+build_ended-coming : (inputs : List Input) (c : Course) (o : Option Counts) → (build_ended inputs c o).state.coming ≡ c.coming
+build_ended-coming inputs c None = refl
+build_ended-coming inputs c (Some j) = refl
+
 build-more : (k : ℕ) (inputs : List Input) (c : Course) (o : Option ScanInProgress) → AskedMore c (built_over k inputs c o).state
-build-more k inputs c (Some scan) = asked-same c (built_over k inputs c (Some scan)).state refl
+build-more k inputs c (Some scan) = asked-same c (built_over k inputs c (Some scan)).state refl refl
 build-more k inputs c None =
     let first = none_taken (at_state c (settled c.state).state) in
     let g = gathered k inputs c in
     asked-then c g.course (built_over k inputs c None).state
-    (asked-then c first.course g.course (asked-same c first.course refl) (inputs-more k first inputs))
-    (asked-same g.course (build_ended inputs g.course g.counts).state (build_ended-asked inputs g.course g.counts))
+    (asked-then c first.course g.course (asked-same c first.course refl refl) (inputs-more k first inputs))
+    (asked-same g.course (build_ended inputs g.course g.counts).state (build_ended-asked inputs g.course g.counts) (build_ended-coming inputs g.course g.counts))
 
 build-due : (k : ℕ) (inputs : List Input) (c : Course) (o : Option ScanInProgress) → scan_of c.state k ≡ o → IsSound c.state → k < length c.state.scans → AllTrue (built_over k inputs c o).state → PrintsSame (built_over k inputs c o) (built c.state k inputs o)
 build-due k inputs c (Some scan) here sound within all = record { text = refl; state = refl }
@@ -319,7 +415,7 @@ line-more c k (Edit edit) = turn-more c (CallEdit _)
 line-more c k Read = turn-more c (CallRead k)
 line-more c k (Scan p) = scan-more k p c (scan_of c.state k)
 line-more c k (Build inputs) = build-more k (map input_of inputs) c (scan_of c.state k)
-line-more c k command = asked-same c (over_for c k command).state refl
+line-more c k command = asked-same c (over_for c k command).state refl refl
 
 line-due : (c : Course) (k : ℕ) (command : Command) → IsSound c.state → k < 16 → AllTrue (over_for c k command).state → PrintsSame (over_for c k command) (printed_for c.state k command)
 line-due c k (Edit edit) sound within all = record { text = ap reply_text (turn-reply c (CallEdit _) all); state = turn-state c (CallEdit _) all }
@@ -329,11 +425,11 @@ line-due c k (Build inputs) sound within all = build-due k (map input_of inputs)
 line-due c k command sound within all = record { text = refl; state = refl }
 
 lines-more : (c : Course) (lines : List Line) → AskedMore c (state_after printed_over c lines)
-lines-more c [] = asked-same c c refl
+lines-more c [] = asked-same c c refl refl
 lines-more c (l ∷ more) = let d = (printed_over c l).state in asked-then c d (state_after printed_over d more) (line-more c l.caller l.command) (lines-more d more)
 
 -- the command lines print what they print in the world
-pub lines-due : (texts : List (List ℕ)) (lines : List Line) (c : Course) → AreLines (IsCommandLine Replay) texts lines → IsSound c.state → AllTrue (state_after printed_over c lines) → output_lines printed_over c lines ≡ output_lines printed c.state lines
+lines-due : (texts : List (List ℕ)) (lines : List Line) (c : Course) → AreLines (IsCommandLine Replay) texts lines → IsSound c.state → AllTrue (state_after printed_over c lines) → output_lines printed_over c lines ≡ output_lines printed c.state lines
 lines-due [] [] c none sound all = refl
 lines-due [] (l ∷ lines) c impossible sound all = elim impossible [ ]
 lines-due (text ∷ texts) lines c (note _ _ _ is more) sound all = lines-due texts lines c more sound all
@@ -358,8 +454,8 @@ opened-state s edit None = refl
 opened-state s edit (Some r) = refl
 
 opening-more : (c : Course) (o : Opening) (edit : Option TreeEdit) → AskedMore c (opening_by true c o edit).state
-opening-more c o None = asked-same c c refl
-opening-more c o (Some edit) = record { more = record { state = c.state; call = CallEdit edit; answers = first_answers c.coming } ∷ []; is = refl }
+opening-more c o None = asked-same c c refl refl
+opening-more c o (Some edit) = question-more c (CallEdit edit) (opened c.state edit (first_answers c.coming).edit).state
 
 -- the same is printed, and the course comes to the opening state over the world
 record OpensSame (case : Case) (queue : ℕ) (a : Printed Course) (b : Printed World) : Type 0 where
@@ -370,7 +466,7 @@ opening-due : (case : Case) (queue : ℕ) (w : World) (c : Course) (o : Opening)
 opening-due case queue w c o None at all = record { text = refl; state = at }
 opening-due case queue w c o (Some edit) at all =
     let s = c.state in
-    let q = each-end IsTrueAnswer c.asked (record { state = s; call = CallEdit edit; answers = first_answers c.coming }) all in
+    let q = each-end IsTrueAnswer c.asked (record { state = s; call = CallEdit edit; answer = first_answer c.coming }) all in
     let r = refusal s.case s.world edit in
     record {
       text = ap (λ (a : EditAnswer). (opened s edit a).text) q.due ∙ opened-text s edit r ∙ ap (λ (t : State). (edited_unless t.case t.world edit (refusal t.case t.world edit)).text) at;
@@ -378,7 +474,7 @@ opening-due case queue w c o (Some edit) at all =
     }
 
 openings-more : (c : Course) (openings : List Opening) → AskedMore c (state_after (opening_over true) c openings)
-openings-more c [] = asked-same c c refl
+openings-more c [] = asked-same c c refl refl
 openings-more c (o ∷ more) =
     let d = (opening_over true c o).state in
     asked-then c d (state_after (opening_over true) d more) (opening-more c o (opening_edit o)) (openings-more d more)
@@ -394,10 +490,10 @@ openings-due case queue w c (o ∷ more) at all =
 
 -- ---- scripts
 
--- the report over the answers is that on the world
-pub script-due : (text : List ℕ) (script : Script) (w : World) (answers : List TreeAnswer) → IsTextOf Replay text script → IsWorld script.settings.case w → AllTrue (course_after script true (opening_course script.settings.case script.settings.queue w answers))
+-- where all answers were true, the report over them is that on the world
+true-due : (text : List ℕ) (script : Script) (w : World) (answers : List TreeAnswer) → IsTextOf Replay text script → IsWorld script.settings.case w → AllTrue (course_after script true (opening_course script.settings.case script.settings.queue w answers))
     → lines_over script true (opening_course script.settings.case script.settings.queue w answers) ≡ lines_in w script
-script-due text script w answers is whole all =
+true-due text script w answers is whole all =
     let case = script.settings.case in
     let queue = script.settings.queue in
     let form = is.script in
@@ -408,3 +504,15 @@ script-due text script w answers is whole all =
     let sound = over-sound script.settings (state_after (printed_opening case) w script.opening) (text-queue text script is) world in
     let lines = lines-due form.second script.lines d form.commands (subst IsSound (sym opened.1) sound) all in
     (λ i. opened.0 i ++ (lines ∙ ap (λ (s : State). output_lines printed s script.lines) opened.1) i)
+
+-- the report over answers of which none is that of a look that failed, each of the kind that was asked for and due in the world, is that on the world
+pub script-due : (text : List ℕ) (script : Script) (w : World) (answers : List TreeAnswer) → IsTextOf Replay text script → IsWorld script.settings.case w → count_by is_failed answers ≡ 0
+    → Each IsFitting (course_after script true (opening_course script.settings.case script.settings.queue w answers)).asked → Each IsDue (course_after script true (opening_course script.settings.case script.settings.queue w answers)).asked
+    → lines_over script true (opening_course script.settings.case script.settings.queue w answers) ≡ lines_in w script
+script-due text script w answers is whole count fitting due =
+    let c = opening_course script.settings.case script.settings.queue w answers in
+    let d = course_opened script true c in
+    let e = course_after script true c in
+    let more = asked-then c d e (openings-more c script.opening) (lines-more d script.lines) in
+    let seen = subst (Each (λ q. IsSeen q.answer)) (sym more.is) (more.seen (all-seen answers count)).1 in
+    true-due text script w answers is whole (all-true e.asked fitting due seen)

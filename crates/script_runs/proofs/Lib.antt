@@ -21,3 +21,4 @@ pub mod OverSpentLemmas
 pub mod OverOpenLemmas
 pub mod OverRunLemmas
 pub mod DueLemmas
+pub mod HashingLemmas

@@ -116,7 +116,7 @@ closes-over : {V : Type 0} (at : V → Path → ℕ) (count : V → ℕ) (old ne
     → ((x : Course) → scan_of (next x).state c ≡ None) → is_some (running_at new.scans c) ≡ false
 closes-over at count old new c P next has h closed =
     let x : Course = record { state = has.state; coming = h.asked ++ []; asked = [] } in
-    let met = (h.goes [] x (record { at_state = has.stands; coming = refl; due = λ _. tt })).1 in
+    let met = (h.goes [] x (record { at_state = has.stands; coming = refl; fitting = tt; due = λ _. tt })).1 in
     closed-of at count new (next x).state c (closed x) met.at_state
 
 -- ---- the scan of a root

@@ -72,7 +72,7 @@ goes-quiet before now a b P move same h = record {
   answered = Answered-none a b same;
   goes = λ more x met.
       let one = h x.state met.at_state in
-      (one.0, record { at_state = one.1; coming = met.coming; due = λ tells. met.due (ap (λ (t : TreeTold). is_some t.content) (sym same) ∙ tells) });
+      (one.0, record { at_state = one.1; coming = met.coming; fitting = met.fitting; due = λ tells. met.due (ap (λ (t : TreeTold). is_some t.content) (sym same) ∙ tells) });
 }
 
 -- what is printed without a question is printed over the answers

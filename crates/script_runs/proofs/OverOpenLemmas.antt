@@ -5,7 +5,7 @@ use Rattle.vfs_model.specs.declared.Case.{Case}
 use Rattle.vfs_model.specs.Paths.{Path}
 use Rattle.vfs_model.specs.World.{World, IsWorld, IsSameBelow}
 use Rattle.vfs_model.specs.Edit.{Edit, Refusal, refusal, apply, events}
-use Rattle.vfs_model.specs.State.{State, CallEdit, Refused, Answers, EditAnswer, Refuses, Does, ToEdit, edit_answer, edit_answer_or}
+use Rattle.vfs_model.specs.State.{State, CallEdit, Refused, Answers, EditAnswer, TreeAnswer, Refuses, Does, ToEdit, edit_answer, edit_answer_or}
 use Rattle.vfs_model.specs.History.{opening}
 use Rattle.vfs_laws.proofs.SameLemmas.{same-refusal}
 use Rattle.world_model.specs.Told.{TreeTold, IsApplied, with_answers}
@@ -14,7 +14,7 @@ use Rattle.script_text.specs.declared.script.Opening.{Opening}
 use Rattle.script_runs.specs.Replies.{reply_text}
 use Rattle.script_runs.specs.Lines.{Printed}
 use Rattle.script_runs.specs.Report.{opening_edit}
-use Rattle.script_runs.specs.Course.{Course, IsDue, first_answers, past_question}
+use Rattle.script_runs.specs.Course.{Course, Question, IsFitting, IsDue, fits, first_answer, first_answers, past_question}
 use Rattle.script_runs.specs.CourseReport.{opened, setting_text, opening_by, opening_over}
 use Rattle.script_runs.specs.Over.{Meets, PrintsOver, IsOpeningOf}
 use Rattle.script_runs.proofs.ReplyLemmas.{some-of}
@@ -47,12 +47,14 @@ edit-over queue old new takes_case o edit a text some is after due tells later t
       let line = ap (opening_by takes_case x o) some in
       let first : first_answers x.coming ≡ record { edit = a; look = None } = ap first_answers met.coming in
       let given : (first_answers x.coming).edit ≡ a = ap (λ (b : Answers). b.edit) first in
+      let asked : Question = record { state = s; call = CallEdit edit; answer = first_answer x.coming } in
       let next : Meets (IsOpeningOf queue new) new more (past_question x (CallEdit edit) (opened s edit (first_answers x.coming).edit).state) = record {
         at_state = subst (λ (b : EditAnswer). IsOpeningOf queue new (opened s edit b).state) (sym given) (after s met.at_state);
         coming = ap (drop 1) met.coming;
+        fitting = Each-and IsFitting x.asked asked met.fitting (ap (λ (l : List TreeAnswer). fits (CallEdit edit) (first_answer l)) met.coming);
         due = λ told.
             let before = sym tells ∙ told in
-            Each-and IsDue x.asked (record { state = s; call = CallEdit edit; answers = first_answers x.coming }) (met.due before) (given ∙ due s met.at_state before);
+            Each-and IsDue x.asked asked (met.due before) (given ∙ due s met.at_state before);
       } in (
         is s ∙ ap (λ (b : EditAnswer). (opened s edit b).text) (sym given) ∙ ap (λ (p : Printed Course). p.text) line,
         subst (Meets (IsOpeningOf queue new) new more) (ap (λ (p : Printed Course). p.state) line) next,

@@ -86,7 +86,7 @@ build-spent c inputs x None = told-spent inputs (gathered c inputs x).course (ga
 
 -- what is met of nothing that was asked yet
 pub first-met : {V : Type 0} (at : V → Path → ℕ) (count : V → ℕ) (m : Parts V) (s : State) (answers : List TreeAnswer) → Stands at count m s → Meets (Stands at count m) (told_of m) answers (record { state = s; coming = answers; asked = [] })
-first-met at count m s answers st = record { at_state = st; coming = refl; due = λ _. tt }
+first-met at count m s answers st = record { at_state = st; coming = refl; fitting = tt; due = λ _. tt }
 
 -- what prints without more invalidations makes at most two more
 spends : {V : Type 0} (at : V → Path → ℕ) (count : V → ℕ) (old new : Parts V) (n : ℕ) (print : Course → Printed Course) (text : List ℕ) → IsReady at count old n → MachinePrints at count old new print text → ((x : Course) → spent (print x).state.state ≡ spent x.state)

@@ -20,7 +20,7 @@ use Rattle.vfs_machine.specs.declared.answers.Edited.TheVariants as edited
 use Rattle.vfs_machine.specs.declared.answers.Readed.{Readed}
 use Rattle.vfs_machine.specs.declared.answers.Readed.TheVariants as readed
 use Rattle.script_runs.specs.Replies.{reply_text}
-use Rattle.script_runs.specs.Course.{IsDue, RoseBy, is_failed, has_left, first_answers, after_call, turn, by_turn}
+use Rattle.script_runs.specs.Course.{Question, IsFitting, IsDue, RoseBy, fits, is_failed, has_left, first_answer, first_answers, after_call, turn, by_turn}
 use Rattle.script_runs.specs.Over.{Meets, GoesOver, MachinePrints}
 use Rattle.script_runs.proofs.SettleLemmas.{outcome-of}
 use Rattle.script_runs.proofs.ReplyLemmas.{some-of}
@@ -83,7 +83,7 @@ read-quiet at count old new c r given memory quiet stepped told later stays = re
       let same = open-unlooked s c o given l none in (
         out.0 ∙ ap (λ z. z.reply) same,
         subst (λ (b : Bool). Meets (Stands at count new) (told_of new) more (after_call b x (CallRead c) (read_or s c o l).state)) (sym none)
-            (record { at_state = subst (λ z. Stands at count new z.state) same out.1; coming = met.coming; due = λ tells. met.due (ap is_some (sym stays) ∙ tells) }),
+            (record { at_state = subst (λ z. Stands at count new z.state) same out.1; coming = met.coming; fitting = met.fitting; due = λ tells. met.due (ap is_some (sym stays) ∙ tells) }),
       );
 }
 
@@ -99,15 +99,17 @@ read-looked at count old new c r given memory looks stepped due told failed stay
       let o = scan_of s c in
       let out = outcome-of r s (step (read_answers given) s (CallRead c)) (Stands at count new) memory (stepped s met.at_state) in
       let some : has_left o ≡ true = open-looked s c o given ∙ ap looked (sym out.0) ∙ looks in
-      let first : first_answers x.coming ≡ read_answers given = ap first_answers met.coming in (
+      let first : first_answers x.coming ≡ read_answers given = ap first_answers met.coming in
+      let asked : Question = record { state = s; call = CallRead c; answer = first_answer x.coming } in (
         out.0 ∙ ap (λ (a : Answers). (step a s (CallRead c)).reply) (sym first),
         subst (λ (b : Bool). Meets (Stands at count new) (told_of new) more (after_call b x (CallRead c) (step (first_answers x.coming) s (CallRead c)).state)) (sym some)
             (record {
               at_state = subst (λ (a : Answers). Stands at count new (step a s (CallRead c)).state) (sym first) out.1;
               coming = ap (drop 1) met.coming;
+              fitting = Each-and IsFitting x.asked asked met.fitting (ap (λ (l : List TreeAnswer). fits (CallRead c) (first_answer l)) met.coming);
               due = λ tells.
                   let before = ap is_some (sym stays) ∙ tells in
-                  Each-and IsDue x.asked (record { state = s; call = CallRead c; answers = first_answers x.coming }) (met.due before) (subst (λ (a : Answers). AreDue s (CallRead c) a) (sym first) (due s met.at_state before));
+                  Each-and IsDue x.asked asked (met.due before) (subst (λ (a : Answers). AreDue s (CallRead c) a) (sym first) (due s met.at_state before));
             }),
       );
 }
@@ -175,16 +177,18 @@ edit-goes at count old new edit result memory stepped due tells later told = rec
   goes = λ more x met.
       let s = x.state in
       let out = outcome-of (edited_reply result) s (step (edit_answers edit result) s (CallEdit edit)) (Stands at count new) memory (stepped s met.at_state) in
-      let first : first_answers x.coming ≡ edit_answers edit result = ap first_answers met.coming in (
+      let first : first_answers x.coming ≡ edit_answers edit result = ap first_answers met.coming in
+      let asked : Question = record { state = s; call = CallEdit edit; answer = first_answer x.coming } in (
         out.0 ∙ ap (λ (a : Answers). (step a s (CallEdit edit)).reply) (sym first),
         record {
           at_state = subst (λ (a : Answers). Stands at count new (step a s (CallEdit edit)).state) (sym first) out.1;
           coming = ap (drop 1) met.coming;
+          fitting = Each-and IsFitting x.asked asked met.fitting (ap (λ (l : List TreeAnswer). fits (CallEdit edit) (first_answer l)) met.coming);
           due = λ told.
               let before = sym tells ∙ told in
               let w = some-of old.content before in
               let is = outcome-of (edited_reply result) s (told_step s (CallEdit edit)) (Stands at count new) memory (due w.0 w.1 s met.at_state) in
-              Each-and IsDue x.asked (record { state = s; call = CallEdit edit; answers = first_answers x.coming }) (met.due before)
+              Each-and IsDue x.asked asked (met.due before)
               (ap (λ (a : Answers). a.edit) first ∙ given-due s edit result (refusal s.case s.world edit) memory is.0);
         },
       );

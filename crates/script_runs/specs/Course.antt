@@ -1,18 +1,18 @@
 -- A run over a tree whose answers are given: the state, the answers that are still to come, and what was asked.
-use Rattle.std.specs.Prelude.{◌≡◌, ◌≢◌, ℕ, ◌+◌, ◌-◌, ◌^◌, ◌≤◌, min, Bool, true, false, List, [], ◌∷◌, ◌++◌, drop, Option, Some, None, is_some, option_map}
-use Rattle.std.specs.List.{AllByRecursion as Each, count_by}
+use Rattle.std.specs.Prelude.{◌≡◌, ℕ, ◌+◌, ◌-◌, ◌^◌, ◌≤◌, min, Bool, true, false, List, [], ◌∷◌, ◌++◌, drop, slice_get, Option, Some, None, is_some, option_map}
+use Rattle.std.specs.List.{count_by}
 use Rattle.vfs_model.specs.Edit.{ReadOnly}
 use Rattle.vfs_model.specs.Scanning.{Scan as ScanInProgress, next_left}
-use Rattle.vfs_model.specs.State.{State, Call, CallEdit, CallRead, Reply, Fault, Answers, TreeAnswer, ToEdit, ToLook, Refuses, Does, AreDue, scan_of, step}
+use Rattle.vfs_model.specs.State.{State, Call, CallEdit, CallRead, Reply, Answers, TreeAnswer, ToEdit, ToLook, Refuses, Does, AreDue, scan_of, step}
 use Rattle.world_model.specs.Told.{TreeTold, with_answers}
 use Rattle.script_runs.specs.Replies.{reply_text}
 use Rattle.script_runs.specs.Lines.{Printed}
 
--- what the tree was asked: the call, the state in which it was made, and what the tree answered in it
+-- what the tree was asked: the call, the state in which it was made, and the answer; none where no answer was to come
 pub record Question : Type 0 where
   pub state : State
   pub call : Call
-  pub answers : Answers
+  pub answer : Option TreeAnswer
 
 -- the state, the tree's answers that are still to come, and what it was asked so far
 pub record Course : Type 0 where
@@ -22,11 +22,18 @@ pub record Course : Type 0 where
 
 -- ---- one call
 
--- the first of the answers, as what the tree answers in a call; where none is to come, it refuses an edit, and a look fails
+-- the first of the answers that are to come
+abbrev pub first_answer : List TreeAnswer → Option TreeAnswer
+first_answer coming = slice_get coming 0
+
+-- an answer, as what the tree answers in a call; where there is none, it refuses an edit, and a look fails
+abbrev pub answers_by : Option TreeAnswer → Answers
+answers_by None = record { edit = Refuses ReadOnly; look = None }
+answers_by (Some (ToEdit answer)) = record { edit = answer; look = None }
+answers_by (Some (ToLook look)) = record { edit = Does []; look = look }
+
 abbrev pub first_answers : List TreeAnswer → Answers
-first_answers [] = record { edit = Refuses ReadOnly; look = None }
-first_answers (ToEdit answer ∷ more) = record { edit = answer; look = None }
-first_answers (ToLook look ∷ more) = record { edit = Does []; look = look }
+first_answers coming = answers_by (first_answer coming)
 
 -- a location of the scan is left
 abbrev pub has_left : Option ScanInProgress → Bool
@@ -48,7 +55,7 @@ abbrev pub past_question : Course → Call → State → Course
 past_question c call s = record {
   state = s;
   coming = drop 1 c.coming;
-  asked = c.asked ++ record { state = c.state; call = call; answers = first_answers c.coming } ∷ [];
+  asked = c.asked ++ record { state = c.state; call = call; answer = first_answer c.coming } ∷ [];
 }
 
 -- the course after a call, by whether it asks the tree
@@ -80,18 +87,19 @@ unasked print c = record { text = (print c.state).text; state = at_state c (prin
 
 -- ---- what a tree answered
 
+-- the call is one that such an answer is given to: an edit that to an edit, and a read that to a look
+abbrev pub fits : Call → Option TreeAnswer → Bool
+fits (CallEdit edit) (Some (ToEdit answer)) = true
+fits (CallRead c) (Some (ToLook look)) = true
+fits call answer = false
+
+-- the tree gave an answer, and one of the kind that was asked for
+abbrev pub IsFitting : Question → Type 0
+IsFitting q = fits q.call q.answer ≡ true
+
 -- the answer that the tree gave is the one that is due in the world, or a look that failed
 abbrev pub IsDue : Question → Type 0
-IsDue q = AreDue q.state q.call q.answers
-
--- the answer that the tree gave is the one that is due in the world, and it is no look that failed
-pub record IsTrueAnswer (q : Question) : Type 0 where
-  pub due : IsDue q
-  pub seen : (step q.answers q.state q.call).reply ≢ Fault
-
--- each answer so far was true
-abbrev pub AllTrue : Course → Type 0
-AllTrue c = Each IsTrueAnswer c.asked
+IsDue q = AreDue q.state q.call (answers_by q.answer)
 
 -- the answer is that of a look that failed
 abbrev pub is_failed : TreeAnswer → Bool

@@ -13,3 +13,4 @@ pub mod Shown
 pub mod Course
 pub mod CourseReport
 pub mod Over
+pub mod Hashing

@@ -16,13 +16,14 @@ use Rattle.script_runs.specs.declared.output.Break.{Break}
 use Rattle.script_runs.specs.Lines.{Printed}
 use Rattle.script_runs.specs.Output.{BreaksOff}
 use Rattle.script_runs.specs.Printing.{RunsAll}
-use Rattle.script_runs.specs.Course.{Course, IsDue, Answered}
+use Rattle.script_runs.specs.Course.{Course, IsFitting, IsDue, Answered}
 use Rattle.script_runs.specs.CourseReport.{Gathered, reads_of, read_in, begun, root_left}
 
--- the course has come to a state that is stood for, these answers are to come, and where the tree tells its content, each answer so far was the one that was due, or a look that failed
+-- the course has come to a state that is stood for, these answers are to come, each answer so far was of the kind that was asked for, and where the tree tells its content, it was the one that was due, or a look that failed
 pub record Meets (stands : State → Type 0) (told : TreeTold) (answers : List TreeAnswer) (c : Course) : Type 0 where
   pub at_state : stands c.state
   pub coming : c.coming ≡ answers
+  pub fitting : Each IsFitting c.asked
   pub due : is_some told.content ≡ true → Each IsDue c.asked
 
 -- in between the tree gave some answers: for every course that was met with these to come, and with whatever is to come behind them, this is shown, and the next course is met

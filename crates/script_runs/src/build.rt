@@ -17,7 +17,7 @@ ghost use Rattle.vfs_machine.specs.Whole.{told_of};
 
 use crate::replay::{read_all, scan_digests, settle};
 use crate::report::{numbered, printed_text, put_number, word};
-use crate::workers::Workers;
+use crate::workers::{Front, Workers};
 use case_order::NoMemory;
 use fingerprint_norms::Input;
 use merkle_hash::Digest;
@@ -98,11 +98,13 @@ fn publish_begun<H: Threads + Sync, T: Tree, R: Retain, V: Versions>(
     ensures over { IfOk result (λ read.
         MachineLeaves V.version V.count machine.old machine.new caller read) }
 {
-    let Some(reads) = read_all(machine, caller)? else {
+    let mut front = Front::new(alloc);
+    let Some(reads) = read_all(workers, alloc, machine, caller, &mut front)? else {
+        workers.give_up(front);
         machine.drop_scan(caller);
         return Ok(None);
     };
-    let digests = scan_digests(workers, alloc, machine, caller)?;
+    let digests = scan_digests(workers, alloc, machine, caller, front)?;
     match machine.publish(caller, digests.as_slice()) {
         Answer::NoMemory => Err(NoMemory),
         _ => Ok(Some(reads)),

@@ -2,7 +2,7 @@
 //! alone.
 
 ghost use Rattle.std.specs.Prelude.{◌≡◌, ◌<◌, ◌++◌, ◌∷◌, [], ℕ, List, None, true, length};
-ghost use Rattle.std.specs.List.{AllByRecursion as Each};
+ghost use Rattle.std.specs.List.{AllByRecursion as Each, count_by};
 ghost use Rattle.script_text.specs.declared.script.Command.{Command};
 ghost use Rattle.script_text.specs.declared.script.Script.{Script};
 ghost use Rattle.script_text.specs.declared.script.TextKind.TheVariants.{Replay};
@@ -14,7 +14,7 @@ ghost use Rattle.vfs_model.specs.Sound.{IsSound};
 ghost use Rattle.vfs_model.specs.State.{State, TreeAnswer, scan_of};
 ghost use Rattle.script_runs.specs.Building.{built, ShowsTheWorld};
 ghost use Rattle.script_runs.specs.Report.{printed_for, lines_in};
-ghost use Rattle.script_runs.specs.Course.{AllTrue};
+ghost use Rattle.script_runs.specs.Course.{IsFitting, IsDue, is_failed};
 ghost use Rattle.script_runs.specs.CourseReport.{opening_course, lines_over, course_after};
 ghost use Rattle.script_runs.specs.Scanned.{EndsAfterReads};
 ghost use Rattle.script_runs.specs.Settling.{EndsAfterDue};
@@ -50,13 +50,15 @@ pub fn lines_end_in_their_last_state()
         × (states_for s caller command ≡ front ++ (printed_for s caller command).state ∷ []) }
 {}
 
-/// Where a tree took the script's case, and each of its answers was the one that is due in its world,
-/// with no look that failed, the report over its answers is that on the world: over the empty world,
-/// the report of a replay.
+/// Where a tree took the script's case, each of its answers was of the kind that was asked for and
+/// the one that was due in its world, and no look failed, the report over its answers is that on the
+/// world: over the empty world, the report of a replay.
 pub fn true_answers_report_the_world()
     ensures { (text : List ℕ) (script : Script) (world : World) (answers : List TreeAnswer)
         → IsTextOf Replay text script → IsWorld script.settings.case world
-        → AllTrue (course_after script true (opening_course script.settings.case script.settings.queue world answers))
+        → count_by is_failed answers ≡ 0
+        → Each IsFitting (course_after script true (opening_course script.settings.case script.settings.queue world answers)).asked
+        → Each IsDue (course_after script true (opening_course script.settings.case script.settings.queue world answers)).asked
         → lines_over script true (opening_course script.settings.case script.settings.queue world answers)
         ≡ lines_in world script }
 {}

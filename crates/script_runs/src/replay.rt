@@ -6,6 +6,7 @@ ghost use Rattle.vfs_model.specs.State as state;
 ghost use Rattle.world_model.specs.Meaning.{edit_of};
 ghost use Rattle.scan_walk.specs.Scans.{running_at, AreDigests};
 ghost use Rattle.script_runs.specs.Report.{by_call, settled, scanned_or, printed};
+ghost use Rattle.script_runs.specs.Hashing.{HashesFrontOf};
 ghost use Rattle.script_runs.specs.Scanned.{ReadsOn};
 ghost use Rattle.script_runs.specs.Printing.{CanRun, IsReady, IsPrinted, IsPrintedOn};
 ghost use Rattle.script_runs.specs.Course.{by_turn};
@@ -21,7 +22,7 @@ use crate::report::{
     began_text, delivered_text, dropped_text, edited_text, fit_text, found_text, known_text,
     numbered, published_text, put_number, readed_text, word,
 };
-use crate::workers::Workers;
+use crate::workers::{Front, Workers};
 use case_order::{NoMemory, Share};
 use merkle_hash::Digest;
 use script_text::{Command, Line};
@@ -146,20 +147,23 @@ fn read_line<T: Tree, R: Retain, V: Versions>(
     readed_text(alloc, &machine.read(caller))
 }
 
-/// The digests of what the scan with the number read; none where it is closed.
+/// The digests of what the scan with the number read, of which the front was hashed before; none where
+/// it is closed.
 pub(crate) fn scan_digests<H: Threads + Sync, T: Tree, R: Retain, V: Versions>(
     workers: &Workers<H>,
     alloc: Global,
     machine: &Machine<T, R, V>,
     scan: u64,
+    front: Front,
 ) -> Result<Vec<Digest>, NoMemory>
-    requires { scan < 16 }
+    requires number { scan < 16 }
+    requires front { HashesFrontOf (running_at machine.now.scans scan) front.count front.digests }
     ensures { IfOk result (λ digests.
         AreDigests (running_at machine.now.scans scan) digests.items) }
 {
     match machine.contents(scan) {
         None => Ok(Vec::new(alloc)),
-        Some(contents) => workers.digests(alloc, contents),
+        Some(contents) => workers.finish(alloc, front, contents),
     }
 }
 
@@ -168,13 +172,15 @@ fn publish_line<H: Threads + Sync, T: Tree, R: Retain, V: Versions>(
     alloc: Global,
     machine: &mut Machine<T, R, V>,
     caller: u64,
+    front: Front,
 ) -> Result<Vec<u8>, NoMemory>
-    requires { caller < 16 }
+    requires caller { caller < 16 }
+    requires front { HashesFrontOf (running_at machine.old.scans caller) front.count front.digests }
     ensures printed { IfOk result (λ text. IsPrinted (Stands V.version V.count machine.old) (Stands V.version V.count machine.new)
         (λ s. by_call s (state.CallPublish caller)) text.items) }
     ensures told { told_of machine.new ≡ told_of machine.old }
 {
-    let digests = scan_digests(workers, alloc, machine, caller)?;
+    let digests = scan_digests(workers, alloc, machine, caller, front)?;
     published_text(alloc, machine.publish(caller, digests.as_slice()))
 }
 
@@ -191,23 +197,49 @@ fn abandon_line<T: Tree, R: Retain, V: Versions>(
     dropped_text(alloc, machine.drop_scan(caller))
 }
 
-/// Reads the caller's scan to its end, and counts the locations; none where a look failed.
-pub(crate) fn read_all<T: Tree, R: Retain, V: Versions>(
+/// Hands what the scan with the number has read to the workers, once enough of it has come together.
+fn hash_on<H: Threads + Sync, T: Tree, R: Retain, V: Versions>(
+    workers: &Workers<H>,
+    alloc: Global,
+    machine: &Machine<T, R, V>,
+    scan: u64,
+    front: &mut Front,
+) -> Result<(), NoMemory>
+    requires number { scan < 16 }
+    requires front { HashesFrontOf (running_at machine.now.scans scan) front.old.count front.old.digests }
+    ensures { IfOk result (λ _.
+        HashesFrontOf (running_at machine.now.scans scan) front.new.count front.new.digests) }
+{
+    match machine.contents(scan) {
+        None => Ok(()),
+        Some(contents) => workers.follow(alloc, front, contents),
+    }
+}
+
+/// Reads the caller's scan to its end, and counts the locations; none where a look failed. What it
+/// reads is hashed meanwhile, where there is more than one worker.
+pub(crate) fn read_all<H: Threads + Sync, T: Tree, R: Retain, V: Versions>(
+    workers: &Workers<H>,
+    alloc: Global,
     machine: &mut Machine<T, R, V>,
     caller: u64,
+    front: &mut Front,
 ) -> Result<Option<u64>, NoMemory>
-    requires { caller < 16 }
+    requires caller { caller < 16 }
+    requires front { HashesFrontOf (running_at machine.old.scans caller) front.old.count front.old.digests }
     ensures read { IfOk result (λ read. TellsAll T.most_faults machine.old → IsSomeAnd read (λ n.
         ReadsOn V.version V.count machine.old machine.new caller n)) }
     ensures over { IfOk result (λ read.
         MachineReads V.version V.count machine.old machine.new caller read) }
     ensures content { machine.new.content ≡ machine.old.content }
+    ensures hashed { IfOk result (λ _.
+        HashesFrontOf (running_at machine.new.scans caller) front.new.count front.new.digests) }
 {
     for count in 0..u64::MAX {
         // The machine's word that it stands for a state.
         let _case = machine.case();
         match machine.read(caller) {
-            Readed::Saw(_, _, _) => {}
+            Readed::Saw(_, _, _) => hash_on(workers, alloc, machine, caller, front)?,
             Readed::Done => return Ok(Some(count)),
             Readed::NoScan => return Ok(Some(count)),
             Readed::Fault => return Ok(None),
@@ -240,10 +272,12 @@ fn scan_begun<H: Threads + Sync, T: Tree, R: Retain, V: Versions>(
     ensures over { IfOk result (λ text. MachinePrints V.version V.count machine.old machine.new
         (λ c. scan_ended caller (reads_of caller c).course (read_in (reads_of caller c))) text.items) }
 {
-    let Some(reads) = read_all(machine, caller)? else {
+    let mut front = Front::new(alloc);
+    let Some(reads) = read_all(workers, alloc, machine, caller, &mut front)? else {
+        workers.give_up(front);
         return word(alloc, b"fault");
     };
-    let text = publish_line(workers, alloc, machine, caller)?;
+    let text = publish_line(workers, alloc, machine, caller, front)?;
     with_reads(alloc, text, reads)
 }
 
@@ -328,7 +362,7 @@ pub(crate) fn run_line<H: Threads + Sync, T: Tree, R: Retain, V: Versions + Drop
         Command::Settle => settle_line(alloc, machine),
         Command::Begin(path) => begin_line(alloc, machine, caller, path),
         Command::Read => read_line(alloc, machine, caller),
-        Command::Publish => publish_line(workers, alloc, machine, caller),
+        Command::Publish => publish_line(workers, alloc, machine, caller, Front::new(alloc)),
         Command::Abandon => abandon_line(alloc, machine, caller),
         Command::Scan(path) => scan_line(workers, alloc, machine, caller, path),
         Command::Find(path) => find_line(alloc, machine, path),

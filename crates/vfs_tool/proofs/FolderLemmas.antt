@@ -1,7 +1,9 @@
 -- A script as a whole, over what a tree that was handed in answered.
-use Rattle.std.proofs.Common.{◌≡◌, ℕ, ◌≤◌, List, [], ◌++◌, Bool, true, false, Option, Some, None, refl, sym, ap, subst, ◌∙◌, append_assoc}
+use Rattle.std.proofs.Common.{◌≡◌, ℕ, ◌-◌, ◌^◌, ◌<◌, ◌≤◌, List, [], ◌++◌, Bool, true, false, Option, Some, None, refl, sym, ap, subst, ◌∙◌, append-nil, append_assoc, arith}
+use Rattle.std.specs.Prelude.{is_some}
+use Rattle.std.specs.List.{AllByRecursion as Each, count_by}
 use Rattle.vfs_model.specs.declared.Case.{Case}
-use Rattle.vfs_model.specs.World.{World, IsSameBelow}
+use Rattle.vfs_model.specs.World.{World, IsWorld, IsSameBelow}
 use Rattle.vfs_model.specs.State.{State, TreeAnswer}
 use Rattle.vfs_model.specs.History.{opening, empty_world}
 use Rattle.vfs_laws.proofs.NameLemmas.{some-is}
@@ -9,18 +11,22 @@ use Rattle.vfs_laws.proofs.SameLemmas.{same-refl}
 use Rattle.world_model.specs.Told.{TreeTold, IsCaseSet, takes_case}
 use Rattle.vfs_io.specs.Told.{SinkTold}
 use Rattle.script_text.specs.declared.script.Script.{Script}
+use Rattle.script_text.specs.declared.script.TextKind.TheVariants.{Replay}
+use Rattle.script_text.specs.Grammar.{IsTextOf}
 use Rattle.script_runs.specs.declared.output.Break.{Break}
 use Rattle.script_runs.specs.declared.output.Break.TheVariants.{Fault}
 use Rattle.vfs_model.specs.Faults.{Rose}
 use Rattle.script_runs.specs.Lines.{output_lines}
 use Rattle.script_runs.specs.Output.{PutsEach}
-use Rattle.script_runs.specs.Course.{Course, Answered}
+use Rattle.script_runs.specs.Report.{lines_in}
+use Rattle.script_runs.specs.Course.{Course, IsFitting, IsDue, Answered, is_failed}
 use Rattle.script_runs.specs.CourseReport.{opening_over, printed_over, course_opened, course_after, lines_over}
 use Rattle.script_runs.specs.Over.{Meets, RunsOver, BreaksOver, IsOpeningOf}
 use Rattle.script_runs.proofs.OverLemmas.{Answered-none, Answered-then}
+use Rattle.script_runs.proofs.DueLemmas.{script-due}
 use Rattle.script_runs.proofs.PrintLemmas.{more-put, breaks-before, broken-after}
 use Rattle.vfs_tool.proofs.CaseLemmas.{script-case}
-use Rattle.vfs_tool.specs.Folder.{MayHold, case_after, AnswersCase, case_of, course_over, PutsOver, BreaksScript}
+use Rattle.vfs_tool.specs.Folder.{MayHold, case_after, AnswersCase, case_of, course_over, PutsIn, PutsOver, BreaksScript}
 
 -- ---- a tree that was asked to take a case
 
@@ -69,6 +75,7 @@ course-met script old set took world answers is holds =
             (holds w (sym (content-set old set script.settings.case took is) ∙ e));
       };
       coming = refl;
+      fitting = tt;
       due = λ _. tt;
     }
 
@@ -146,7 +153,7 @@ all-put-over takes_no_edits script old set opened new took a b c case is first s
       answered = answered;
       puts = λ world holds more.
           let put = both-put script old set opened new took a b c is first second world holds more in
-          record { lines = put.0; spent = put.1.coming; due = λ tells. put.1.due (answered.tells ∙ tells) };
+          record { lines = put.0; spent = put.1.coming; fitting = put.1.fitting; due = λ tells. put.1.due (answered.tells ∙ tells) };
     }
 
 -- at a fault the count of the sink rose
@@ -154,3 +161,20 @@ pub fault-rose : (takes_no_edits : Bool) (script : Script) (old : TreeTold) (a b
 fault-rose takes_no_edits script old a b h =
     let some = some-world (case_of script old h.took) old in
     (h.broke some.0 some.1 []).0
+
+-- ---- a tree that told its content
+
+-- where no look failed over a tree that took the script's case, the report on its content was put
+pub told-puts : (takes_no_edits : Bool) (old new : TreeTold) (text : List ℕ) (script : Script) (world : World) (a b : SinkTold) → IsTextOf Replay text script → IsWorld script.settings.case world → old.content ≡ Some world → new.faults ≡ old.faults
+    → old.faults < 2 ^ 64 - 1 → (over : PutsOver takes_no_edits old new script a b) → over.took ≡ true → PutsEach a b (lines_in world script)
+told-puts takes_no_edits old new text script world a b is whole told same room over took =
+    let case = script.settings.case in
+    let failed = over.answered.failed in
+    let none : count_by is_failed over.answers ≡ 0 = omega (arith, failed, same, room) in
+    let holds : MayHold case old world = λ w e. subst (λ (v : World). IsSameBelow case world [] v []) (some-is world w (sym told ∙ e)) (same-refl case world) in
+    let all : (w : World) → MayHold case old w → (more : List TreeAnswer) → PutsIn old script true over.answers more a b w =
+    subst (λ (t : Bool). (w : World) → MayHold (case_of script old t) old w → (more : List TreeAnswer) → PutsIn old script t over.answers more a b w) took over.puts in
+    let put = all world holds [] in
+    let bare = subst (λ (l : List TreeAnswer). PutsEach a b (lines_over script true (course_over script old true world l)) × Each IsFitting (course_after script true (course_over script old true world l)).asked × Each IsDue (course_after script true (course_over script old true world l)).asked)
+    (append-nil over.answers) (put.lines, put.fitting, put.due (ap is_some told)) in
+    subst (PutsEach a b) (script-due text script world over.answers is whole none bare.1 bare.2) bare.0

@@ -91,6 +91,7 @@ met-made : (before first : State → Type 0) (told was : TreeTold) (answers : Li
 met-made before first told was answers c stands same met = record {
   at_state = stands c.state met.at_state;
   coming = met.coming;
+  fitting = met.fitting;
   due = λ tells. met.due (ap (λ (t : TreeTold). is_some t.content) (sym same) ∙ tells);
 }
 
@@ -104,7 +105,7 @@ runs-over-made print before now first told was new is lines a b stands cased sam
       answered = run.answered;
       runs = λ more c met.
           let done = run.runs more c (met-made before first was was (run.asked ++ more) c stands refl met) in
-          (done.0, record { at_state = cased _ done.1.at_state ∙ sym (ap (λ (t : TreeTold). t.case) end); coming = done.1.coming; due = done.1.due });
+          (done.0, record { at_state = cased _ done.1.at_state ∙ sym (ap (λ (t : TreeTold). t.case) end); coming = done.1.coming; fitting = done.1.fitting; due = done.1.due });
     }
 
 pub breaks-over-made : {X : Type 0} (print : Course → X → Printed Course) (before first : State → Type 0) (told was : TreeTold) (lines : List X) (a b : SinkTold) (e : Break) → ((s : State) → first s → before s) → told ≡ was → BreaksOver print before told lines a b e

@@ -12,7 +12,7 @@ use Rattle.script_text.specs.declared.script.TextKind.TheVariants.{Replay}
 use Rattle.script_text.specs.Grammar.{IsTextOf}
 use Rattle.script_runs.specs.declared.output.Break.{Break}
 use Rattle.script_runs.specs.Output.{PutsEach, Breaks}
-use Rattle.script_runs.specs.Course.{Course, IsDue, Answered}
+use Rattle.script_runs.specs.Course.{Course, IsFitting, IsDue, Answered}
 use Rattle.script_runs.specs.CourseReport.{opening_course, lines_over, course_after}
 use Rattle.vfs_tool.specs.Input.{TakesAll}
 
@@ -47,10 +47,11 @@ case_of script told took = case_after took told.case script.settings.case
 abbrev pub course_over : Script → TreeTold → Bool → World → List TreeAnswer → Course
 course_over script told took world answers = opening_course (case_of script told took) script.settings.queue world answers
 
--- in this world, and with these further answers behind those of the run, the report on the script was put, each line by a call of its own, exactly the answers of the run were taken, and where the tree tells its content, each was the one that was due, or a look that failed
+-- in this world, and with these further answers behind those of the run, the report on the script was put, each line by a call of its own, exactly the answers of the run were taken, each for a question of its kind, and where the tree tells its content, each was the one that was due, or a look that failed
 pub record PutsIn (told : TreeTold) (script : Script) (took : Bool) (answers more : List TreeAnswer) (before after : SinkTold) (world : World) : Type 0 where
   pub lines : PutsEach before after (lines_over script took (course_over script told took world (answers ++ more)))
   pub spent : (course_after script took (course_over script told took world (answers ++ more))).coming ≡ more
+  pub fitting : Each IsFitting (course_after script took (course_over script told took world (answers ++ more))).asked
   pub due : is_some told.content ≡ true → Each IsDue (course_after script took (course_over script told took world (answers ++ more))).asked
 
 -- the tree was asked to take the script's case, and has the case of the run at the end; it gave these answers to the edits and looks of the run, and whatever would have come behind them, in each world that it may hold the report over them was put

@@ -259,9 +259,10 @@ pub fn run<H: Threads + Sync, S: Source, K: Sink, T: Tree>(
         Reports (S.told source.old) (S.told source.new) (K.told sink.old) (K.told sink.new) }
 
     // The input was taken to its end, it is the text of a script, and what was put is the report on it
-    // over what the tree answered in this call: as it told it where it tells its answers, and else over
-    // some answers. Where the tree tells its content, each of them is the one that was due, or a look
-    // that failed.
+    // over what the tree answered in this call, each edit to an edit and each look to a look: as it told
+    // it where it tells its answers, and else over some answers, of which no more are failed looks than
+    // its count of faults rose by. Where the tree tells its content, each of them is the one that was
+    // due, or a look that failed.
     ensures done_over { IsFolder words.now → result.0 ≡ Status.Done →
         ReportsOver T.takes_no_edits (T.told folder) (T.told result.1)
         (S.told source.old) (S.told source.new) (K.told sink.old) (K.told sink.new) }

@@ -341,9 +341,13 @@ fn put_builds(alloc: Global, script: &mut Vec<u8>, report: &mut Vec<u8>) -> Resu
     Ok(())
 }
 
-#[test]
-fn builds_the_same_by_any_number_of_workers(rt: HostRuntime) -> Result<(), Fail> {
-    let alloc = rt.alloc();
+/// Runs a script by several numbers of workers, and compares what is written.
+fn assert_same_by_workers(
+    rt: &(impl Abort + Threads + Sync),
+    alloc: Global,
+    script: &[u8],
+    report: &[u8],
+) -> Result<(), Fail> {
     let settings: [(&[u8], &[u8]); 4] = [
         (b"", b""),
         (b"set workers 2\n", b"ok\n"),
@@ -351,14 +355,39 @@ fn builds_the_same_by_any_number_of_workers(rt: HostRuntime) -> Result<(), Fail>
         (b"set workers 16\n", b"ok\n"),
     ];
     for (setting, answer) in settings {
-        let mut script = Vec::from_slice(alloc, setting)?;
+        let mut whole = Vec::from_slice(alloc, setting)?;
+        whole.extend_from_slice(script)?;
         let mut wanted = Vec::from_slice(alloc, answer)?;
-        put_builds(alloc, &mut script, &mut wanted)?;
-        let ended = run_with(&rt, alloc, &["replay"], script.as_slice(), &[], &[])?;
+        wanted.extend_from_slice(report)?;
+        let ended = run_with(rt, alloc, &["replay"], whole.as_slice(), &[], &[])?;
         assert_eq!(rt; ended.status, Status::Done);
         assert_eq!(rt; ended.written.as_slice(), wanted.as_slice());
     }
     Ok(())
+}
+
+#[test]
+fn builds_the_same_by_any_number_of_workers(rt: HostRuntime) -> Result<(), Fail> {
+    let alloc = rt.alloc();
+    let (mut script, mut report) = (Vec::new(alloc), Vec::new(alloc));
+    put_builds(alloc, &mut script, &mut report)?;
+    assert_same_by_workers(&rt, alloc, script.as_slice(), report.as_slice())
+}
+
+#[test]
+fn hashes_while_it_reads_by_any_number_of_workers(rt: HostRuntime) -> Result<(), Fail> {
+    let alloc = rt.alloc();
+    let (mut script, mut report) = (Vec::new(alloc), Vec::new(alloc));
+    // More files than are handed to a thread at a time.
+    put_directory(alloc, &mut script, "/many", 300)?;
+    script.extend_from_slice(b"0 build rel:/many\n")?;
+    for _ in 0..301u64 {
+        report.extend_from_slice(b"ok\n")?;
+    }
+    report.extend_from_slice(
+        b"build a9b1fd1bc10575559e487d9e95a74dbc hits 0 misses 1 reads 301\n",
+    )?;
+    assert_same_by_workers(&rt, alloc, script.as_slice(), report.as_slice())
 }
 
 #[test]

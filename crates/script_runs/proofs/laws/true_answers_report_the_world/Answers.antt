@@ -2,4 +2,4 @@ use Rattle.script_runs.proofs.DueLemmas.{script-due}
 use Rattle.script_runs.proofs.laws.true_answers_report_the_world.Goals as goal
 
 pub returns : goal.returns
-returns c = λ text script world answers is whole all. script-due text script world answers is whole all
+returns c = script-due

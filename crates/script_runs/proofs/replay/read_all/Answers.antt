@@ -3,6 +3,7 @@ use Rattle.std.specs.Prelude.{is_some, Some, None}
 use Rattle.vfs_machine.specs.Steps.{readed_reply}
 use Rattle.script_runs.proofs.ReplyLemmas.{none-rises}
 use Rattle.script_runs.proofs.ReadLemmas.{none-so, more-so, last-so}
+use Rattle.script_runs.proofs.HashingLemmas.{front-read}
 use Rattle.script_runs.proofs.TurnLemmas.{read-goes}
 use Rattle.script_runs.proofs.OverReadLemmas.{none-read, one-read, last-read}
 use Rattle.script_runs.proofs.replay.read_all.Goals as goal
@@ -12,6 +13,7 @@ loop-count-init g c = record {
   reads = λ tells. none-so g.V.Versions.version g.V.Versions.count c.args.machine.now c.args.caller;
   over = none-read g.V.Versions.version g.V.Versions.count c.args.machine.now c.args.caller;
   content = refl;
+  hashed = c.requires.front;
 }
 
 pub loop-count-preserved : goal.loop-count-preserved
@@ -27,6 +29,7 @@ loop-count-preserved g c =
           one-read at count c.args.machine.now c.loop-count.machine c.read.new.self c.args.caller c.loop-count.count (readed_reply c.read.result) (rw c.in-Saw.is refl) before.over
           (read-goes at count c.loop-count.machine c.read.new.self c.args.caller c.read.result (rw c.in-Saw.is refl) c.case-case.ensures.sound read.read (λ e. (read.fault e).0) read.faults read.content);
       content = read.content ∙ before.content;
+      hashed = c.in_ok-hash_on-in-Saw.ensures;
     }
 
 pub returns-in-Done-clause-read : goal.returns-in-Done-clause-read
@@ -78,3 +81,17 @@ returns-in-Fault-clause-over g c =
 
 pub returns-in-Fault-clause-content : goal.returns-in-Fault-clause-content
 returns-in-Fault-clause-content g c = c.read.ensures.content ∙ c.loop-count.invariant.content
+
+-- what is hashed stays the front of what is read
+
+pub hash_on-requires-clause-front : goal.hash_on-requires-clause-front
+hash_on-requires-clause-front g c = λ _ _. front-read g.V.Versions.version g.V.Versions.count c.loop-count.machine c.read.new.self c.args.caller c.loop-count.front.count c.loop-count.front.digests c.read.result (rw c.in-Saw.is refl) c.case-case.ensures.sound c.read.ensures.read c.loop-count.invariant.hashed
+
+pub returns-in-Done-clause-hashed : goal.returns-in-Done-clause-hashed
+returns-in-Done-clause-hashed g c = front-read g.V.Versions.version g.V.Versions.count c.loop-count.machine c.read.new.self c.args.caller c.loop-count.front.count c.loop-count.front.digests c.read.result (rw c.in-Done.is refl) c.case-case.ensures.sound c.read.ensures.read c.loop-count.invariant.hashed
+
+pub returns-in-NoScan-clause-hashed : goal.returns-in-NoScan-clause-hashed
+returns-in-NoScan-clause-hashed g c = front-read g.V.Versions.version g.V.Versions.count c.loop-count.machine c.read.new.self c.args.caller c.loop-count.front.count c.loop-count.front.digests c.read.result (rw c.in-NoScan.is refl) c.case-case.ensures.sound c.read.ensures.read c.loop-count.invariant.hashed
+
+pub returns-in-Fault-clause-hashed : goal.returns-in-Fault-clause-hashed
+returns-in-Fault-clause-hashed g c = front-read g.V.Versions.version g.V.Versions.count c.loop-count.machine c.read.new.self c.args.caller c.loop-count.front.count c.loop-count.front.digests c.read.result (rw c.in-Fault.is refl) c.case-case.ensures.sound c.read.ensures.read c.loop-count.invariant.hashed
