@@ -7,7 +7,7 @@ ghost use Rattle.vfs_model.specs.Snapshot.{Missing};
 ghost use Rattle.snapshot_tree.specs.Meaning.{meaning_of};
 
 use crate::Sensitivity::{Absolute, Ignored, NameOnly, Relative};
-use crate::{FpEntry, Input, Inputs, Kind, Seen, Sensitivity, entries, fingerprint};
+use crate::{FpEntry, Input, Inputs, Kind, Seen, Sensitivity, Text, entries, fingerprint};
 use case_order::{Case, Share, order};
 use merkle_hash::file_digest;
 use snapshot_tree::{DirBuilder, Snapshot};
@@ -222,5 +222,12 @@ fn inputs_are_shared(rt: HostRuntime) -> Result<(), Fail> {
     assert_eq!(rt; inputs.as_slice().len(), 1);
     assert_eq!(rt; inputs.as_slice()[0].sensitivity, Relative);
     assert!(rt; inputs.as_slice()[0].root == Path::parse(rt.alloc(), b"/h")?);
+    Ok(())
+}
+
+#[test]
+fn texts_are_shared(rt: HostRuntime) -> Result<(), Fail> {
+    let text = Text::from_vec(Vec::from_slice(rt.alloc(), b"s/t")?).share()?;
+    assert_eq!(rt; text.as_slice(), b"s/t".as_slice());
     Ok(())
 }

@@ -2,6 +2,7 @@
 
 ghost use Rattle.std.specs.Prelude.{◌≡◌};
 
+use case_order::{NoMemory, Share};
 use std::marker::Model;
 
 /// A text: a list of bytes, which contracts see.
@@ -31,5 +32,12 @@ impl Text {
         ensures { result.now ≡ self.now }
     {
         self.bytes.as_slice()
+    }
+}
+
+impl Share for Text {
+    fn share(&self) -> Result<Text, NoMemory> {
+        let bytes = Vec::from_slice(*self.bytes.allocator(), self.as_slice())?;
+        Ok(Text { bytes })
     }
 }

@@ -5,4 +5,3 @@ pub mod EditedLemmas
 pub mod RefusalLemmas
 pub mod LookLemmas
 pub mod CaseLemmas
-pub mod Walks

@@ -3,7 +3,7 @@ use Rattle.std.specs.Prelude.{ℕ, List, ◌++◌, Contains, Result, Ok, Err}
 use Rattle.vfs_model.specs.declared.Case.{Case}
 use Rattle.vfs_model.specs.World.{World}
 use Rattle.vfs_model.specs.State.{TreeAnswer}
-use Rattle.vfs_model.specs.Faults.{next_count}
+use Rattle.vfs_model.specs.Faults.{next_count, next_number}
 use Rattle.world_model.specs.Meaning.{look_answers}
 use Rattle.world_model.specs.declared.entry.Entry.{Entry}
 use Rattle.world_model.specs.declared.entry.LookError.{LookError}
@@ -20,7 +20,7 @@ pub record Failing : Type 0 where
 
 -- the next look is one of those that fail
 abbrev pub IsNextToFail : Failing → Type 0
-IsNextToFail t = Contains t.fails (next_count t.looks)
+IsNextToFail t = Contains t.fails (next_number t.looks)
 
 -- how many looks failed, after one that gave this
 abbrev pub faults_after : ℕ → Result Entry LookError → ℕ
@@ -31,7 +31,7 @@ faults_after n (Err look_error.NoMemory) = n
 -- the tree after a look that gave this
 abbrev pub after_look : Failing → Result Entry LookError → Failing
 after_look t result = record t {
-  looks = next_count t.looks;
+  looks = next_number t.looks;
   faults = faults_after t.faults result;
   answers = t.answers ++ look_answers result;
 }

@@ -1,10 +1,10 @@
 //! A tree in memory whose stated looks fail.
 
-ghost use Rattle.std.specs.Prelude.{◌≡◌, ◌≤◌, ◌↔◌, ◌++◌, ◌^◌, ◌-◌, [], false, None, Err, IfOk, IfErr, OnErr, OnOk, length, if◌then◌else◌};
+ghost use Rattle.std.specs.Prelude.{◌≡◌, ◌≤◌, ◌↔◌, ◌++◌, [], false, None, Err, IfOk, IfErr, OnErr, OnOk, length, if◌then◌else◌};
 ghost use Rattle.vfs_model.specs.Paths.{place};
 ghost use Rattle.vfs_model.specs.World.{IsWorld, IsSameBelow};
 ghost use Rattle.vfs_model.specs.Edit as edits;
-ghost use Rattle.vfs_model.specs.Faults.{next_count};
+ghost use Rattle.vfs_model.specs.Faults.{next_number};
 ghost use Rattle.vfs_model.specs.Scanning as scanning;
 ghost use Rattle.vfs_model.specs.Sound.{IsLook};
 ghost use Rattle.mem_tree.specs.Failing.{IsNextToFail, faults_after, after_look};
@@ -19,7 +19,7 @@ use crate::tree::MemTree;
 use case_order::Case;
 use std::marker::Model;
 use vfs_path::Path;
-use world_model::{ApplyError, Edit, Entry, Events, LookError, Tree};
+use world_model::{ApplyError, Edit, Entry, Events, FaultCount, LookError, Tree};
 
 /// A tree in memory whose k-th look fails for each k in a list, where k counts from 1. It tells its
 /// content and its answers.
@@ -28,12 +28,11 @@ pub struct FailingTree {
     tree: MemTree,
     fails: Vec<u64>,
     looks: u64,
-    faults: u64,
+    faults: FaultCount,
     trail: Trail,
 }
 
 impl Model for FailingTree {
-    ghost use Rattle.std.specs.Prelude.{◌≤◌, ◌^◌, ◌-◌};
     ghost use Rattle.mem_tree.specs.Failing.{Failing};
 
     ghost Value = { Failing };
@@ -43,11 +42,9 @@ impl Model for FailingTree {
       world = t.tree.world;
       fails = t.fails.items;
       looks = t.looks;
-      faults = t.faults;
+      faults = t.faults.count;
       answers = t.trail.answers;
     } };
-
-    ghost invariant = { λ t. t.faults ≤ 2 ^ 64 - 1 };
 }
 
 impl FailingTree {
@@ -59,7 +56,7 @@ impl FailingTree {
             tree,
             fails,
             looks: 0,
-            faults: 0,
+            faults: FaultCount::none(),
             trail: Trail::new(),
         }
     }
@@ -71,15 +68,14 @@ impl FailingTree {
         ensures seen { IfOk result (λ entry. look_seen entry
             ≡ scanning.look self.old.case self.old.world (place self.old.case path.now)) }
         ensures tree { self.new ≡ record self.old {
-          looks = next_count self.old.looks;
+          looks = next_number self.old.looks;
           faults = faults_after self.old.faults result;
         } }
         ensures later { self.old.faults ≤ self.new.faults }
-        ensures limit { self.new.faults ≤ 2 ^ 64 - 1 }
     {
         self.looks = self.looks.saturating_add(1);
         if self.fails.contains(&self.looks) {
-            self.faults = self.faults.saturating_add(1);
+            self.faults = self.faults.and_one();
             return Err(LookError::Failed);
         }
         self.tree.look(path)
@@ -87,11 +83,11 @@ impl FailingTree {
 }
 
 impl Tree for FailingTree {
-    ghost use Rattle.std.specs.Prelude.{Some, false, ◌^◌, ◌-◌};
+    ghost use Rattle.std.specs.Prelude.{Some, false};
 
     ghost told = { λ t. record { case = t.case; content = Some t.world; faults = t.faults; answers = Some t.answers } };
 
-    ghost most_faults = { 2 ^ 64 - 1 };
+    ghost never_fails = { false };
 
     ghost takes_no_edits = { false };
 
@@ -113,7 +109,6 @@ impl Tree for FailingTree {
             ≡ scanning.look self.old.case self.old.world (place self.old.case path.now)) }
         ensures tree { self.new ≡ after_look self.old result }
         ensures later { self.old.faults ≤ self.new.faults }
-        ensures limit { self.new.faults ≤ 2 ^ 64 - 1 }
     {
         let result = self.looked(path);
         self.trail = self.trail.and(&Given::Look(&result));

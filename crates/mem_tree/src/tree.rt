@@ -60,11 +60,11 @@ impl MemTree {
 }
 
 impl Tree for MemTree {
-    ghost use Rattle.std.specs.Prelude.{Some, None, false};
+    ghost use Rattle.std.specs.Prelude.{Some, None, false, true};
 
     ghost told = { λ t. record { case = t.case; content = Some t.world; faults = 0; answers = None } };
 
-    ghost most_faults = { 0 };
+    ghost never_fails = { true };
 
     ghost takes_no_edits = { false };
 

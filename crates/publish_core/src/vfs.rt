@@ -1,6 +1,6 @@
 //! What is retained, and the versions of paths.
 
-ghost use Rattle.std.specs.Prelude.{◌≡◌, ◌<◌, ◌^◌, ◌+◌, ◌++◌, ◌∷◌, [], List, ℕ, Some, IfOk, OnOk, OnErr, option_map};
+ghost use Rattle.std.specs.Prelude.{◌≡◌, ◌<◌, ◌^◌, ◌+◌, ◌++◌, ◌∷◌, [], true, List, ℕ, Some, IfOk, IfSome, OnOk, OnErr, is_some, option_map};
 ghost use Rattle.std.specs.List.{list_any};
 ghost use Rattle.vfs_model.specs.Paths as paths;
 ghost use Rattle.vfs_model.specs.Pending as pending;
@@ -95,10 +95,14 @@ impl<R: Retain, V: Versions> Vfs<R, V> {
 
     /// The part at the path, where one is retained.
     ///
-    /// The only error is want of memory.
+    /// The names of its directories are in order under the case, and no child is missing. The only
+    /// error is want of memory, which comes only where a part is retained.
     pub fn part(&self, path: &Path) -> Result<Option<Snapshot>, NoMemory>
-        ensures { IfOk result (λ part. option_map meaning_of part
+        ensures found { IfOk result (λ part. option_map meaning_of part
             ≡ spec.part_of self.now.case self.now.retained.pairs (paths.place self.now.case path.now)) }
+        ensures tree { IfOk result (λ part. IfSome part (λ s. IsTree self.now.case (meaning_of s))) }
+        ensures last { OnErr result
+            (is_some (spec.part_of self.now.case self.now.retained.pairs (paths.place self.now.case path.now)) ≡ true) }
     {
         self.retained.part(path)
     }

@@ -8,3 +8,4 @@ pub mod LineLaws
 pub mod TextLaws
 pub mod Prefixes
 pub mod TrueCauses
+mod CauseRows

@@ -3,6 +3,7 @@
 ghost use Rattle.std.specs.Prelude.{◌≡◌};
 ghost use Rattle.script_reader.specs.declared.error.LineError.TheVariants.{NoMemory as WantOfMemory};
 
+use case_order::NoMemory;
 use script_text::{BadLine, Cause};
 use std::alloc::{AllocError, AllocFailed};
 
@@ -20,6 +21,14 @@ pub enum ScriptError {
 pub(crate) enum LineError {
     Bad(Cause),
     NoMemory,
+}
+
+impl From<NoMemory> for LineError {
+    ghost from_gives = { λ _ e. e ≡ WantOfMemory };
+
+    fn from(_: NoMemory) -> LineError {
+        LineError::NoMemory
+    }
 }
 
 impl From<AllocError> for LineError {

@@ -1,21 +1,10 @@
--- What a machine owes to a line: its text, and the state after it.
-use Rattle.std.specs.Prelude.{◌≡◌, ◌<◌, ◌≤◌, ◌+◌, ◌*◌, ◌^◌, ℕ, List, [], length}
-use Rattle.std.specs.declared.option.Option.TheVariants.{Some}
-use Rattle.vfs_model.specs.Paths.{Path}
+-- What a run asks for.
+use Rattle.std.specs.Prelude.{◌<◌, ◌≤◌, ◌+◌, ◌*◌, ◌^◌, ℕ, length}
 use Rattle.vfs_model.specs.Pending.{deliveries_due}
-use Rattle.vfs_model.specs.State.{State}
-use Rattle.vfs_model.specs.Stands.{Parts, Stands}
-use Rattle.vfs_model.specs.declared.Case.{Case}
-use Rattle.vfs_model.specs.World.{World, IsSameBelow}
-use Rattle.world_model.specs.Told.{TreeTold}
-use Rattle.vfs_io.specs.Told.{SinkTold}
+use Rattle.vfs_model.specs.Stands.{Parts}
 use Rattle.script_text.specs.declared.script.Command.{Command}
 use Rattle.script_text.specs.declared.script.Command.TheVariants.{Print, Build}
 use Rattle.script_text.specs.declared.script.Line.{Line}
-use Rattle.script_runs.specs.Lines.{Printed, output_lines, state_after}
-use Rattle.script_runs.specs.Output.{PutsEach}
-use Rattle.script_runs.specs.Report.{published_after}
-use Rattle.script_runs.specs.Scanned.{after_reads, EndsAfter}
 
 -- a command on inputs has 1 to 64 of them
 abbrev pub HasFewInputs : Command → Type 0
@@ -35,28 +24,18 @@ IsQueue n = (1 ≤ n) × (n ≤ 65536)
 abbrev pub IsWorkers : ℕ → Type 0
 IsWorkers n = (1 ≤ n) × (n ≤ 16)
 
--- the machine stands for a state, and has room for so many lines, each of which makes at most two invalidations due
-pub record IsReady {V : Type 0} (at : V → Path → ℕ) (count : V → ℕ) (m : Parts V) (lines : ℕ) : Type 0 where
-  pub state : State
-  pub stands : Stands at count m state
-  pub room : count m.versions + deliveries_due m.pending + 2 * lines < 2 ^ 62
+-- the invalidations that were made and those that are due
+abbrev pub spent : {V : Type 0} → (V → ℕ) → Parts V → ℕ
+spent count m = count m.versions + deliveries_due m.pending
 
--- what the tree tells is this world in any order, by names that compare under the case
-pub record HoldsWorld (case : Case) (told : TreeTold) (world : World) : Type 0 where
-  pub under : told.case ≡ case
-  pub content : World
-  pub tells : told.content ≡ Some content
-  pub same : IsSameBelow case world [] content []
+-- there is room for so many lines, each of which makes at most two invalidations due
+abbrev pub HasRoom : {V : Type 0} → (V → ℕ) → Parts V → ℕ → Type 0
+HasRoom count m lines = spent count m + 2 * lines < 2 ^ 62
 
--- for every state that stood for what was before, the text is what is printed there, and the state after it stands for what is now
-abbrev pub IsPrinted : {S : Type 0} → (S → Type 0) → (S → Type 0) → (S → Printed S) → List ℕ → Type 0
-IsPrinted {S} before now print text = (s : S) → before s → (text ≡ (print s).text) × now (print s).state
+-- the invalidations that were made and those that are due are at most two more
+abbrev pub SpendsTwo : {V : Type 0} → (V → ℕ) → Parts V → Parts V → Type 0
+SpendsTwo count old new = spent count new ≤ spent count old + 2
 
--- for every state that stood for what was before, the output line of each was put by a call of its own, and the state after them stands for what is now
-abbrev pub RunsAll : {S X : Type 0} → (S → X → Printed S) → (S → Type 0) → (S → Type 0) → List X → SinkTold → SinkTold → Type 0
-RunsAll {S} print before now lines old new = (s : S) → before s → PutsEach old new (output_lines print s lines) × now (state_after print s lines)
-
--- for every state that the machine stood for, in which the reads of the scan end after so many, the text is what their publication prints, and the machine stands for the state after it
-abbrev pub IsPrintedOn : {V : Type 0} → (V → Path → ℕ) → (V → ℕ) → Parts V → Parts V → ℕ → List ℕ → Type 0
-IsPrintedOn at count old new c text =
-    (s : State) → Stands at count old s → (n : ℕ) × EndsAfter s c n × (text ≡ (published_after n (after_reads n s c) c).text) × Stands at count new (published_after n (after_reads n s c) c).state
+-- they are no more
+abbrev pub SpendsNone : {V : Type 0} → (V → ℕ) → Parts V → Parts V → Type 0
+SpendsNone count old new = spent count new ≤ spent count old

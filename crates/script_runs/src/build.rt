@@ -1,19 +1,16 @@
 //! The lines that show fingerprints: `print` asks for one, and `build` first retains what it is of.
 
-ghost use Rattle.std.specs.Prelude.{◌≡◌, ◌<◌, ◌≤◌, ◌+◌, ◌^◌, ◌∷◌, [], true, false, length, map, IfOk, OnOk, IfSome, IsSomeAnd, is_some, ◌++◌};
+ghost use Rattle.std.specs.Prelude.{◌≡◌, ◌<◌, ◌≤◌, ◌+◌, ◌^◌, ℕ, List, length, map, IfOk, OnOk, OnErr, IfSome, is_some, ◌++◌, []};
 ghost use Rattle.std.specs.Fmt.{decimal};
 ghost use Rattle.fingerprint_norms.specs.Meaning.{input_of};
-ghost use Rattle.vfs_model.specs.Pending as pending;
 ghost use Rattle.vfs_model.specs.State as state;
-ghost use Rattle.vfs_model.specs.Stands.{Stands};
+ghost use Rattle.vfs_model.specs.Fingerprint as fingerprints;
 ghost use Rattle.scan_walk.specs.Scans.{running_at};
-ghost use Rattle.script_runs.specs.Calls.{by_call};
-ghost use Rattle.script_runs.specs.Building.{build_text, fingerprinted, built};
-ghost use Rattle.script_runs.specs.Taking.{PublishesOn, ScansRoot, Takes, built_in};
-ghost use Rattle.script_runs.specs.Printing.{IsPrinted};
-ghost use Rattle.script_runs.specs.CourseReport.{input_taken, inputs_taken, none_taken, built_over};
-ghost use Rattle.script_runs.specs.Over.{MachineLeaves, MachineScans, MachineTakes, MachinePrints, TellsAll};
-ghost use Rattle.vfs_machine.specs.Whole.{told_of};
+ghost use Rattle.script_report.specs.Stages.{Stage, Whole, Asks, Reads};
+ghost use Rattle.script_report.specs.Lines as report;
+ghost use Rattle.script_runs.specs.Printing.{SpendsNone, spent};
+ghost use Rattle.script_runs.specs.Making.{Leads, Stops};
+ghost use Rattle.script_runs.specs.Taking.{counts_of, root_end, inputs_end};
 
 use crate::replay::{read_all, scan_digests, settle};
 use crate::report::{numbered, printed_text, put_number, word};
@@ -77,9 +74,11 @@ pub(crate) fn print_line<T: Tree, R: Retain, V: Versions>(
 ) -> Result<Vec<u8>, NoMemory>
     requires some { 1 ≤ length inputs.now }
     requires few { length inputs.now ≤ 64 }
-    ensures printed { IfOk result (λ text. IsPrinted (Stands V.version V.count machine.old) (Stands V.version V.count machine.new)
-        (λ s. by_call s (state.CallFingerprint (map input_of inputs.now))) text.items) }
-    ensures told { told_of machine.new ≡ told_of machine.old }
+    ensures done { IfOk result (λ text. (caller : ℕ) → Leads V.version V.count machine.old machine.new caller
+        (report.one_call (state.CallFingerprint (map input_of inputs.now))) (Whole text.items)) }
+    ensures broken { OnErr result ((caller : ℕ) → Stops V.version V.count machine.old machine.new caller
+        (report.one_call (state.CallFingerprint (map input_of inputs.now)))) }
+    ensures room { SpendsNone V.count machine.old machine.new }
 {
     printed_text(alloc, machine.fingerprint(inputs))
 }
@@ -92,11 +91,12 @@ fn publish_begun<H: Threads + Sync, T: Tree, R: Retain, V: Versions>(
     machine: &mut Machine<T, R, V>,
     caller: u64,
 ) -> Result<Option<u64>, NoMemory>
-    requires { caller < 16 }
-    ensures published { IfOk result (λ read. TellsAll T.most_faults machine.old → IsSomeAnd read (λ n.
-        PublishesOn V.version V.count machine.old machine.new caller n)) }
-    ensures over { IfOk result (λ read.
-        MachineLeaves V.version V.count machine.old machine.new caller read) }
+    requires caller { caller < 16 }
+    ensures done { IfOk result (λ read. (k : report.Counts) (more : report.Counts → Stage) → Leads V.version V.count machine.old machine.new caller
+        (Reads caller 0 (report.root_read caller k more)) (root_end k more read)) }
+    ensures broken { OnErr result ((k : report.Counts) (more : report.Counts → Stage) → Stops V.version V.count machine.old machine.new caller
+        (Reads caller 0 (report.root_read caller k more))) }
+    ensures room { SpendsNone V.count machine.old machine.new }
 {
     let mut front = Front::new(alloc);
     let Some(reads) = read_all(workers, alloc, machine, caller, &mut front)? else {
@@ -121,19 +121,15 @@ fn scan_root<H: Threads + Sync, T: Tree, R: Retain, V: Versions>(
     root: &Path,
 ) -> Result<Option<u64>, NoMemory>
     requires caller { caller < 16 }
-    requires closed { is_some (running_at machine.old.scans caller) ≡ false }
-    ensures scanned { IfOk result (λ read. TellsAll T.most_faults machine.old → IsSomeAnd read (λ n.
-        ScansRoot V.version V.count machine.old machine.new caller root.now n)) }
-    ensures over { IfOk result (λ read.
-        MachineScans V.version V.count machine.old machine.new caller root.now read) }
-    ensures left { IfOk result (λ _. is_some (running_at machine.new.scans caller) ≡ false) }
+    ensures done { IfOk result (λ read. (k : report.Counts) (more : report.Counts → Stage) → Leads V.version V.count machine.old machine.new caller
+        (Asks (state.CallBegin caller root.now) (λ reply. Reads caller 0 (report.root_read caller k more))) (root_end k more read)) }
+    ensures broken { OnErr result ((k : report.Counts) (more : report.Counts → Stage) → Stops V.version V.count machine.old machine.new caller
+        (Asks (state.CallBegin caller root.now) (λ reply. Reads caller 0 (report.root_read caller k more)))) }
+    ensures room { SpendsNone V.count machine.old machine.new }
 {
-    // The machine's word that what its tree tells is a world, and that it has sixteen scans.
-    let _case = machine.case();
     match machine.begin(caller, root) {
-        Began::Version(_) => publish_begun(workers, alloc, machine, caller),
-        Began::AlreadyOpen => unreachable!(),
         Began::NoMemory => Err(NoMemory),
+        _ => publish_begun(workers, alloc, machine, caller),
     }
 }
 
@@ -147,15 +143,14 @@ fn take_input<H: Threads + Sync, T: Tree, R: Retain, V: Versions>(
     counts: Counts,
 ) -> Result<Option<Counts>, NoMemory>
     requires caller { caller < 16 }
-    requires closed { is_some (running_at machine.old.scans caller) ≡ false }
     requires few { counts.hits + counts.misses < 64 }
-    ensures taken { IfOk result (λ taken. TellsAll T.most_faults machine.old → IsSomeAnd taken (λ after.
-        Takes V.version V.count machine.old machine.new caller (input_of input.now ∷ []) counts after)) }
-    ensures over { IfOk result (λ taken. MachineTakes V.version V.count machine.old machine.new
-        (λ c. input_taken caller counts c (input_of input.now)) taken) }
+    ensures done { IfOk result (λ taken. (more : report.Counts → Stage) → Leads V.version V.count machine.old machine.new caller
+        (Asks (state.CallFind (input_of input.now).root) (report.root_found caller (input_of input.now).root (counts_of counts) more)) (inputs_end more taken)) }
+    ensures broken { OnErr result ((more : report.Counts → Stage) → Stops V.version V.count machine.old machine.new caller
+        (Asks (state.CallFind (input_of input.now).root) (report.root_found caller (input_of input.now).root (counts_of counts) more))) }
+    ensures room { SpendsNone V.count machine.old machine.new }
     ensures counted { IfOk result (λ taken. IfSome taken (λ after.
         after.hits + after.misses ≡ counts.hits + counts.misses + 1)) }
-    ensures left { IfOk result (λ _. is_some (running_at machine.new.scans caller) ≡ false) }
 {
     if machine.find(&input.root).is_some() {
         return Ok(Some(counts.with_hit()));
@@ -175,12 +170,12 @@ fn take_inputs<H: Threads + Sync, T: Tree, R: Retain, V: Versions>(
     inputs: &[Input],
 ) -> Result<Option<Counts>, NoMemory>
     requires caller { caller < 16 }
-    requires closed { is_some (running_at machine.old.scans caller) ≡ false }
     requires few { length inputs.now ≤ 64 }
-    ensures taken { IfOk result (λ taken. TellsAll T.most_faults machine.old → IsSomeAnd taken (λ after.
-        Takes V.version V.count machine.old machine.new caller (map input_of inputs.now) (record { hits = 0; misses = 0; reads = 0 }) after)) }
-    ensures over { IfOk result (λ taken. MachineTakes V.version V.count machine.old machine.new
-        (λ c. inputs_taken caller (none_taken c) (map input_of inputs.now)) taken) }
+    ensures done { IfOk result (λ taken. (all : List fingerprints.Input) → Leads V.version V.count machine.old machine.new caller
+        (report.taking caller all (map input_of inputs.now) report.no_counts) (inputs_end (report.taking caller all []) taken)) }
+    ensures broken { OnErr result ((all : List fingerprints.Input) → Stops V.version V.count machine.old machine.new caller
+        (report.taking caller all (map input_of inputs.now) report.no_counts)) }
+    ensures room { SpendsNone V.count machine.old machine.new }
 {
     let mut counts = Counts {
         hits: 0,
@@ -206,7 +201,7 @@ fn put_count(alloc: Global, text: &mut Vec<u8>, word: &[u8], count: u64) -> Resu
 
 fn counted_text(alloc: Global, digest: Digest, counts: Counts) -> Result<Vec<u8>, NoMemory>
     ensures { IfOk result (λ text.
-        text.items ≡ build_text digest counts.hits counts.misses counts.reads) }
+        text.items ≡ report.build_text (counts_of counts) digest) }
 {
     let mut text = Vec::from_slice(alloc, b"build ")?;
     text.extend_from_slice(&digest.to_hex())?;
@@ -225,9 +220,11 @@ fn fingerprint_built<T: Tree, R: Retain, V: Versions>(
 ) -> Result<Vec<u8>, NoMemory>
     requires some { 1 ≤ length inputs.now }
     requires few { length inputs.now ≤ 64 }
-    ensures printed { IfOk result (λ text. IsPrinted (Stands V.version V.count machine.old) (Stands V.version V.count machine.new)
-        (λ s. fingerprinted (map input_of inputs.now) (built_in counts s)) text.items) }
-    ensures told { told_of machine.new ≡ told_of machine.old }
+    ensures done { IfOk result (λ text. (caller : ℕ) → Leads V.version V.count machine.old machine.new caller
+        (report.taking caller (map input_of inputs.now) [] (counts_of counts)) (Whole text.items)) }
+    ensures broken { OnErr result ((caller : ℕ) → Stops V.version V.count machine.old machine.new caller
+        (report.taking caller (map input_of inputs.now) [] (counts_of counts))) }
+    ensures room { SpendsNone V.count machine.old machine.new }
 {
     match machine.fingerprint(inputs) {
         Printed::Is(digest) => counted_text(alloc, digest, counts),
@@ -246,13 +243,14 @@ pub(crate) fn build_line<H: Threads + Sync, T: Tree, R: Retain, V: Versions + Dr
     inputs: &[Input],
 ) -> Result<Vec<u8>, NoMemory>
     requires caller { caller < 16 }
-    requires room { V.count machine.old.versions + pending.deliveries_due machine.old.pending < 2 ^ 62 }
+    requires room { spent V.count machine.old < 2 ^ 62 }
     requires some { 1 ≤ length inputs.now }
     requires few { length inputs.now ≤ 64 }
-    ensures printed { IfOk result (λ text. TellsAll T.most_faults machine.old → IsPrinted (Stands V.version V.count machine.old) (Stands V.version V.count machine.new)
-        (λ s. built s caller (map input_of inputs.now) (state.scan_of s caller)) text.items) }
-    ensures over { IfOk result (λ text. MachinePrints V.version V.count machine.old machine.new
-        (λ c. built_over caller (map input_of inputs.now) c (state.scan_of c.state caller)) text.items) }
+    ensures done { IfOk result (λ text. Leads V.version V.count machine.old machine.new caller
+        (report.building caller (is_some (running_at machine.old.scans caller)) (map input_of inputs.now)) (Whole text.items)) }
+    ensures broken { OnErr result (Stops V.version V.count machine.old machine.new caller
+        (report.building caller (is_some (running_at machine.old.scans caller)) (map input_of inputs.now))) }
+    ensures room { SpendsNone V.count machine.old machine.new }
 {
     if machine.scanning(caller) {
         return word(alloc, b"open");

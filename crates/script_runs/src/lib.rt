@@ -3,11 +3,10 @@
 //!
 //! `opening` does the opening lines, `replay` the command lines, `build` those that show
 //! fingerprints, `workers` hashes what they publish, `report` has the texts of the answers, and
-//! `output` puts them. `laws` says what holds of each state that a run goes through.
+//! `output` puts them. What holds of each run is told by the laws of `script_report`.
 #![tactic(auto)]
 
 mod build;
-pub mod laws;
 mod opening;
 mod output;
 mod replay;

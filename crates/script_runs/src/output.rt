@@ -1,16 +1,12 @@
 //! Output lines, put one by one as the lines of a script are done.
 
-ghost use Rattle.std.specs.Prelude.{◌≡◌, ◌≤◌, ℕ, [], ◌∷◌, length, true, IfErr, OnOk};
+ghost use Rattle.std.specs.Prelude.{◌≡◌, ◌≤◌, [], ◌∷◌, length, IfErr, OnOk};
 ghost use Rattle.std.specs.List.{AllByRecursion as Each};
-ghost use Rattle.vfs_model.specs.declared.Case.{Case};
-ghost use Rattle.vfs_model.specs.Stands.{Stands};
 ghost use Rattle.script_text.specs.Writing.{ended};
-ghost use Rattle.script_runs.specs.Report.{printed, printed_opening};
-ghost use Rattle.script_runs.specs.Printing.{CanRun, IsReady, IsWorkers, RunsAll, HoldsWorld};
-ghost use Rattle.script_runs.specs.Output.{PutsEach, Breaks, BreaksOff};
-ghost use Rattle.script_runs.specs.CourseReport.{opening_over, printed_over};
-ghost use Rattle.script_runs.specs.Over.{RunsOver, BreaksOver, IsOpeningOf, SpendsTwo, TellsAll};
-ghost use Rattle.vfs_machine.specs.Whole.{told_of};
+ghost use Rattle.script_runs.specs.Printing.{CanRun, HasRoom, SpendsTwo, IsWorkers};
+ghost use Rattle.script_runs.specs.Output.{PutsEach, FailsIn};
+ghost use Rattle.script_runs.specs.Running.{RunsLines, BreaksLines};
+ghost use Rattle.script_runs.specs.Opening.{OpensLines, BreaksOpening};
 
 use crate::opening::open;
 use crate::replay::run_line;
@@ -38,7 +34,7 @@ fn put_text<K: Sink>(mut text: Vec<u8>, sink: &mut K) -> Result<(), Break>
     ensures ok { OnOk result
         (PutsEach (K.told sink.old) (K.told sink.new) (ended text.items ∷ [])) }
     ensures err { IfErr result (λ e.
-        Breaks (K.told sink.old) (K.told sink.new) (ended text.items ∷ []) e) }
+        FailsIn (K.told sink.old) (K.told sink.new) (ended text.items) e) }
     ensures later { (K.told sink.old).faults ≤ (K.told sink.new).faults }
 {
     if text.push(b'\n').is_err() {
@@ -58,18 +54,8 @@ fn put_opening<T: Tree, K: Sink>(
     opening: &Opening,
     sink: &mut K,
 ) -> Result<(), Break>
-    ensures ok { OnOk result (takes_case ≡ true → (case : Case) → RunsAll (printed_opening case)
-        (HoldsWorld case (T.told tree.old)) (HoldsWorld case (T.told tree.new)) (opening.now ∷ [])
-        (K.told sink.old) (K.told sink.new)) }
-    ensures err { IfErr result (λ e. takes_case ≡ true → (case : Case) → BreaksOff (printed_opening case)
-        (HoldsWorld case (T.told tree.old)) (opening.now ∷ [])
-        (K.told sink.old) (K.told sink.new) e) }
-    ensures over { OnOk result ((queue : ℕ) → RunsOver (opening_over takes_case)
-        (IsOpeningOf queue (T.told tree.old)) (IsOpeningOf queue (T.told tree.new))
-        (T.told tree.old) (T.told tree.new) (opening.now ∷ []) (K.told sink.old) (K.told sink.new)) }
-    ensures broken { IfErr result (λ e. (queue : ℕ) → BreaksOver (opening_over takes_case)
-        (IsOpeningOf queue (T.told tree.old)) (T.told tree.old) (opening.now ∷ [])
-        (K.told sink.old) (K.told sink.new) e) }
+    ensures ok { OnOk result (OpensLines (T.told tree.old) (T.told tree.new) takes_case (opening.now ∷ []) (K.told sink.old) (K.told sink.new)) }
+    ensures err { IfErr result (λ e. BreaksOpening (T.told tree.old) (T.told tree.new) takes_case (opening.now ∷ []) (K.told sink.old) (K.told sink.new) e) }
     ensures later { (K.told sink.old).faults ≤ (K.told sink.new).faults }
 {
     let Ok(text) = open(alloc, tree, takes_case, opening) else {
@@ -90,18 +76,8 @@ pub fn put_openings<T: Tree, K: Sink>(
     openings: &[Opening],
     sink: &mut K,
 ) -> Result<(), Break>
-    ensures ok { OnOk result (takes_case ≡ true → (case : Case) → RunsAll (printed_opening case)
-        (HoldsWorld case (T.told tree.old)) (HoldsWorld case (T.told tree.new)) openings.now
-        (K.told sink.old) (K.told sink.new)) }
-    ensures err { IfErr result (λ e. takes_case ≡ true → (case : Case) → BreaksOff (printed_opening case)
-        (HoldsWorld case (T.told tree.old)) openings.now
-        (K.told sink.old) (K.told sink.new) e) }
-    ensures over { OnOk result ((queue : ℕ) → RunsOver (opening_over takes_case)
-        (IsOpeningOf queue (T.told tree.old)) (IsOpeningOf queue (T.told tree.new))
-        (T.told tree.old) (T.told tree.new) openings.now (K.told sink.old) (K.told sink.new)) }
-    ensures broken { IfErr result (λ e. (queue : ℕ) → BreaksOver (opening_over takes_case)
-        (IsOpeningOf queue (T.told tree.old)) (T.told tree.old) openings.now
-        (K.told sink.old) (K.told sink.new) e) }
+    ensures ok { OnOk result (OpensLines (T.told tree.old) (T.told tree.new) takes_case openings.now (K.told sink.old) (K.told sink.new)) }
+    ensures err { IfErr result (λ e. BreaksOpening (T.told tree.old) (T.told tree.new) takes_case openings.now (K.told sink.old) (K.told sink.new) e) }
     ensures later { (K.told sink.old).faults ≤ (K.told sink.new).faults }
 {
     for opening in openings {
@@ -119,19 +95,9 @@ fn put_line<H: Threads + Sync, T: Tree, R: Retain, V: Versions + Drop, K: Sink>(
     sink: &mut K,
 ) -> Result<(), Break>
     requires line { CanRun line.now }
-    requires ready { IsReady V.version V.count machine.old 1 }
-    ensures ok { OnOk result (TellsAll T.most_faults machine.old → RunsAll printed
-        (Stands V.version V.count machine.old) (Stands V.version V.count machine.new)
-        (line.now ∷ []) (K.told sink.old) (K.told sink.new)) }
-    ensures err { IfErr result (λ e. TellsAll T.most_faults machine.old → BreaksOff printed
-        (Stands V.version V.count machine.old) (line.now ∷ [])
-        (K.told sink.old) (K.told sink.new) e) }
-    ensures over { OnOk result (RunsOver printed_over
-        (Stands V.version V.count machine.old) (Stands V.version V.count machine.new)
-        (told_of machine.old) (told_of machine.new) (line.now ∷ []) (K.told sink.old) (K.told sink.new)) }
-    ensures broken { IfErr result (λ e. BreaksOver printed_over
-        (Stands V.version V.count machine.old) (told_of machine.old) (line.now ∷ [])
-        (K.told sink.old) (K.told sink.new) e) }
+    requires room { HasRoom V.count machine.old 1 }
+    ensures ok { OnOk result (RunsLines V.version V.count machine.old machine.new (line.now ∷ []) (K.told sink.old) (K.told sink.new)) }
+    ensures err { IfErr result (λ e. BreaksLines V.version V.count machine.old machine.new (line.now ∷ []) (K.told sink.old) (K.told sink.new) e) }
     ensures room { OnOk result (SpendsTwo V.count machine.old machine.new) }
     ensures later { (K.told sink.old).faults ≤ (K.told sink.new).faults }
 {
@@ -144,9 +110,9 @@ fn put_line<H: Threads + Sync, T: Tree, R: Retain, V: Versions + Drop, K: Sink>(
 /// Runs the command lines in order, and puts the output line of each. What a line publishes is
 /// hashed by 1 to 16 workers, on whose number no output depends.
 ///
-/// What is put is the report over what the machine's tree answered; where the tree tells its content
-/// and can count no fault, that is what the content alone makes of it. `Fault` comes only where the
-/// sink's count of faults rose in this call; the only other error is want of memory.
+/// Each line makes the calls that it asks for, in order, and what is put is the text that their replies
+/// make. `Fault` comes only where the sink's count of faults rose in this call; the only other error is
+/// want of memory, after which nothing of the next line was put.
 pub fn run_lines<H: Threads + Sync, T: Tree, R: Retain, V: Versions + Drop, K: Sink>(
     rt: &H,
     alloc: Global,
@@ -157,19 +123,9 @@ pub fn run_lines<H: Threads + Sync, T: Tree, R: Retain, V: Versions + Drop, K: S
 ) -> Result<(), Break>
     requires workers { IsWorkers workers }
     requires lines { Each CanRun lines.now }
-    requires ready { IsReady V.version V.count machine.old (length lines.now) }
-    ensures ok { OnOk result (TellsAll T.most_faults machine.old → RunsAll printed
-        (Stands V.version V.count machine.old) (Stands V.version V.count machine.new)
-        lines.now (K.told sink.old) (K.told sink.new)) }
-    ensures err { IfErr result (λ e. TellsAll T.most_faults machine.old → BreaksOff printed
-        (Stands V.version V.count machine.old) lines.now
-        (K.told sink.old) (K.told sink.new) e) }
-    ensures over { OnOk result (RunsOver printed_over
-        (Stands V.version V.count machine.old) (Stands V.version V.count machine.new)
-        (told_of machine.old) (told_of machine.new) lines.now (K.told sink.old) (K.told sink.new)) }
-    ensures broken { IfErr result (λ e. BreaksOver printed_over
-        (Stands V.version V.count machine.old) (told_of machine.old) lines.now
-        (K.told sink.old) (K.told sink.new) e) }
+    requires room { HasRoom V.count machine.old (length lines.now) }
+    ensures ok { OnOk result (RunsLines V.version V.count machine.old machine.new lines.now (K.told sink.old) (K.told sink.new)) }
+    ensures err { IfErr result (λ e. BreaksLines V.version V.count machine.old machine.new lines.now (K.told sink.old) (K.told sink.new) e) }
     ensures later { (K.told sink.old).faults ≤ (K.told sink.new).faults }
 {
     let workers = Workers::new(rt, workers);

@@ -8,9 +8,10 @@ use Rattle.std.proofs.lemmas.List.Elements.{All-from_recursion}
 use Rattle.std.proofs.lemmas.List.Splits.{slice_split_at, slice_split_none}
 use Rattle.hex.specs.Hex.{encode_lower}
 use Rattle.script_text.proofs.Digits.{own, read_on}
-use Rattle.script_summary.proofs.ApartLemmas.{Apart, number_apart, hex_apart}
+use Rattle.script_report.proofs.ApartLemmas.{Apart, number_apart, hex_apart}
 use Rattle.script_summary.specs.Summary.{number_in}
-use Rattle.script_summary.specs.Laws.{built_line, Tells}
+use Rattle.script_report.specs.Lines.{Counts, build_text}
+use Rattle.script_summary.specs.Laws.{Tells, AreNumbers}
 
 -- ---- numbers
 
@@ -49,23 +50,23 @@ from_misses m r = codes "misses" ++ 32 ∷ (decimal m ++ 32 ∷ from_reads r)
 abbrev from_hits : ℕ → ℕ → ℕ → List ℕ
 from_hits h m r = codes "hits" ++ 32 ∷ (decimal h ++ 32 ∷ from_misses m r)
 
-regrouped : (digest : List ℕ) (h m r : ℕ) → built_line digest h m r ≡ codes "build" ++ 32 ∷ (encode_lower digest ++ 32 ∷ from_hits h m r)
-regrouped digest h m r = simp append_assoc
+regrouped : (digest : List ℕ) (k : Counts) → build_text k digest ≡ codes "build" ++ 32 ∷ (encode_lower digest ++ 32 ∷ from_hits k.hits k.misses k.reads)
+regrouped digest k = simp append_assoc
 
-built_words : (digest : List ℕ) (h m r : ℕ)
-    → words (built_line digest h m r) ≡ codes "build" ∷ encode_lower digest ∷ codes "hits" ∷ decimal h ∷ codes "misses" ∷ decimal m ∷ codes "reads" ∷ decimal r ∷ []
-built_words digest h m r =
-    ap words (regrouped digest h m r)
-    ∙ cut (codes "build") (encode_lower digest ++ 32 ∷ from_hits h m r) (refl, (refl, (refl, (refl, (refl, tt)))))
-    ∙ ap (λ (ws : List (List ℕ)). codes "build" ∷ ws) (cut (encode_lower digest) (from_hits h m r) (hex_apart 32 digest (lit< tt) (lit< tt))
-    ∙ ap (λ (ws : List (List ℕ)). encode_lower digest ∷ ws) (counted (codes "hits") h (from_misses m r) (refl, (refl, (refl, (refl, tt))))
-    ∙ ap (λ (ws : List (List ℕ)). codes "hits" ∷ decimal h ∷ ws) (counted (codes "misses") m (from_reads r) (refl, (refl, (refl, (refl, (refl, (refl, tt))))))
-    ∙ ap (λ (ws : List (List ℕ)). codes "misses" ∷ decimal m ∷ ws) (counted_last (codes "reads") r (refl, (refl, (refl, (refl, (refl, tt)))))))))
+built_words : (digest : List ℕ) (k : Counts)
+    → words (build_text k digest) ≡ codes "build" ∷ encode_lower digest ∷ codes "hits" ∷ decimal k.hits ∷ codes "misses" ∷ decimal k.misses ∷ codes "reads" ∷ decimal k.reads ∷ []
+built_words digest k =
+    ap words (regrouped digest k)
+    ∙ cut (codes "build") (encode_lower digest ++ 32 ∷ from_hits k.hits k.misses k.reads) (refl, (refl, (refl, (refl, (refl, tt)))))
+    ∙ ap (λ (ws : List (List ℕ)). codes "build" ∷ ws) (cut (encode_lower digest) (from_hits k.hits k.misses k.reads) (hex_apart 32 digest (lit< tt) (lit< tt))
+    ∙ ap (λ (ws : List (List ℕ)). encode_lower digest ∷ ws) (counted (codes "hits") k.hits (from_misses k.misses k.reads) (refl, (refl, (refl, (refl, tt))))
+    ∙ ap (λ (ws : List (List ℕ)). codes "hits" ∷ decimal k.hits ∷ ws) (counted (codes "misses") k.misses (from_reads k.reads) (refl, (refl, (refl, (refl, (refl, (refl, tt))))))
+    ∙ ap (λ (ws : List (List ℕ)). codes "misses" ∷ decimal k.misses ∷ ws) (counted_last (codes "reads") k.reads (refl, (refl, (refl, (refl, (refl, tt)))))))))
 
-pub builds_tell : (digest : List ℕ) (h m r : ℕ) → h < 2 ^ 64 → m < 2 ^ 64 → r < 2 ^ 64 → Tells (built_line digest h m r) h m r
-builds_tell digest h m r p q s =
-    let ws = built_words digest h m r in record {
-      hits_told = rw ws (number_again h p);
-      misses_told = rw ws (number_again m q);
-      reads_told = rw ws (number_again r s);
+pub builds_tell : (digest : List ℕ) (k : Counts) → AreNumbers k → Tells (build_text k digest) k
+builds_tell digest k numbers =
+    let ws = built_words digest k in record {
+      hits = rw ws (number_again k.hits numbers.hits);
+      misses = rw ws (number_again k.misses numbers.misses);
+      reads = rw ws (number_again k.reads numbers.reads);
     }

@@ -1,3 +1,2 @@
 pub mod GeneratedLemmas
-pub mod ApartLemmas
 pub mod CountLemmas

@@ -33,6 +33,11 @@ fn sums_up_a_report(rt: HostRuntime) -> Result<(), Fail> {
             b"built 01 hits 2 misses 3 reads 40\n build 01 hits 2 misses 3 reads 40\nbuild 01 hits 1".as_slice(),
             b"lines 2 hits 1 misses 0 reads 0 md5 0ccb923685ede7da71be70acccb29b4f\n".as_slice(),
         ),
+        // Counts past 65,535 and past 4,294,967,295.
+        (
+            b"build 01 hits 70000 misses 65536 reads 4294967296\nbuild 02 hits 1 misses 0 reads 4294967295\n".as_slice(),
+            b"lines 2 hits 70001 misses 65536 reads 8589934591 md5 09dfbd6984cb6dcc0fa9d4740d1d1276\n".as_slice(),
+        ),
     ];
     for (report, line) in table {
         assert_eq!(rt; summary_line(alloc, report)?.as_slice(), line);

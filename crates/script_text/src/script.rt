@@ -5,7 +5,6 @@ ghost use Rattle.std.specs.Prelude.{◌≡◌, [], ◌∷◌, ◌++◌, ◌==◌
 use case_order::{Case, NoMemory, Share, share_all};
 use fingerprint_norms::Inputs;
 use merkle_hash::Bytes;
-use std::alloc::AllocError;
 use std::marker::Model;
 use vfs_path::Path;
 use world_model::{Edit, Settings};
@@ -170,7 +169,9 @@ impl Openings {
     }
 
     /// Puts an opening line last.
-    pub fn push(&mut self, opening: Opening) -> Result<(), AllocError>
+    ///
+    /// The only error is want of memory; the list then stays.
+    pub fn push(&mut self, opening: Opening) -> Result<(), NoMemory>
         ensures ok { OnOk result (self.new ≡ self.old ++ opening ∷ []) }
         ensures err { OnErr result (self.new ≡ self.old) }
     {
@@ -224,7 +225,9 @@ impl Lines {
     }
 
     /// Puts a line last.
-    pub fn push(&mut self, line: Line) -> Result<(), AllocError>
+    ///
+    /// The only error is want of memory; the list then stays.
+    pub fn push(&mut self, line: Line) -> Result<(), NoMemory>
         ensures ok { OnOk result (self.new ≡ self.old ++ line ∷ []) }
         ensures err { OnErr result (self.new ≡ self.old) }
     {

@@ -1,13 +1,16 @@
 -- The part at a path, by the first pair at or above it.
 use Rattle.std.proofs.Common.{◌≡◌, ◌≤◌, Bool, List, [], ◌∷◌, length, drop, map, Option, Some, None, refl, sym, ap, ◌∙◌, subst, arith}
 use Rattle.std.proofs.lemmas.List.{length-map}
-use Rattle.std.specs.List.{list_any}
+use Rattle.std.specs.Prelude.{Result, Ok, Err, OnErr}
+use Rattle.std.specs.List.{list_any, AllByRecursion as Each}
 use Rattle.vfs_model.specs.declared.Case.{Case}
 use Rattle.vfs_model.specs.Paths.{Path, place, folded_name, is_at_or_above}
-use Rattle.vfs_model.specs.Snapshot.{Snapshot, sub}
-use Rattle.vfs_model.specs.Retained.{part_of}
+use Rattle.vfs_model.specs.Snapshot.{Snapshot, sub, IsTree}
+use Rattle.vfs_model.specs.Retained.{Pair, part_of}
 use Rattle.vfs_laws.proofs.Splits.{split}
+use Rattle.vfs_laws.proofs.FindLemmas.{part-from}
 use Rattle.vfs_laws.proofs.NameLemmas.{some-is}
+use Rattle.vfs_laws.proofs.RetainedLemmas.{tree-sub}
 use Rattle.snapshot_tree.specs.Meaning.{meaning_of}
 use Rattle.vfs_laws.proofs.AboveLemmas.{above-short}
 use Rattle.snapshot_tree.specs.declared.pieces.Pair.{Pair as PairValue}
@@ -50,3 +53,14 @@ part-of_first case path pairs pair e = ap (part_from case path) e ∙ part_of-fi
 -- where no pair is found, there is none
 pub part-of_none : (case : Case) (path : Path) (pairs : List PairValue) → None ≡ first_over case path pairs → None ≡ part_of case (pairs_of case pairs) (place case path)
 part-of_none case path pairs e = ap (part_from case path) e ∙ part_of-first case path pairs
+
+-- each part of trees is a tree
+pub part-tree : (case : Case) (pairs : List Pair) (x : Path) (part : Snapshot) → Each (λ (r : Pair). IsTree case r.snapshot) pairs → Some part ≡ part_of case pairs x → IsTree case part
+part-tree case pairs x part trees e =
+    let from = part-from case (λ (r : Pair). IsTree case r.snapshot) pairs x part trees (sym e) in
+    subst (IsTree case) from.part (tree-sub case from.pair.snapshot (drop (length from.pair.path) x) from.holds)
+
+-- what holds anyway holds where there is an error
+pub on-error : {T E P : Type 0} (r : Result T E) → P → OnErr r P
+on-error (Ok x) h = tt
+on-error (Err e) h = h

@@ -1,6 +1,6 @@
 //! What holds snapshots at paths.
 
-ghost use Rattle.std.specs.Prelude.{◌≡◌, ◌∷◌, [], false, IfOk, OnOk, OnErr, option_map};
+ghost use Rattle.std.specs.Prelude.{◌≡◌, ◌∷◌, [], false, true, IfOk, IfSome, OnOk, OnErr, is_some, option_map};
 ghost use Rattle.vfs_model.specs.Paths.{place};
 ghost use Rattle.vfs_model.specs.Retained as spec;
 ghost use Rattle.vfs_model.specs.Snapshot.{IsTree};
@@ -38,10 +38,14 @@ pub trait Retain {
 
     /// The part at the path of the pair at or above it; None exactly where there is no such pair.
     ///
-    /// The only error is want of memory.
+    /// The names of the directories of a part are in order under the case, and no child is missing.
+    /// The only error is want of memory, which comes only where there is such a pair.
     fn part(&self, path: &Path) -> Result<Option<Snapshot>, NoMemory>
-        ensures { IfOk result (λ part. option_map meaning_of part
-            ≡ spec.part_of (held self.now).case (held self.now).retained.pairs (place (held self.now).case path.now)) };
+        ensures found { IfOk result (λ part. option_map meaning_of part
+            ≡ spec.part_of (held self.now).case (held self.now).retained.pairs (place (held self.now).case path.now)) }
+        ensures tree { IfOk result (λ part. IfSome part (λ s. IsTree (held self.now).case (meaning_of s))) }
+        ensures last { OnErr result
+            (is_some (spec.part_of (held self.now).case (held self.now).retained.pairs (place (held self.now).case path.now)) ≡ true) };
 
     /// The kind and the digest of that part; takes no memory.
     fn find(&self, path: &Path) -> Option<Glance>

@@ -3,10 +3,10 @@
 //! It writes links, but no pipe, which std does not make in a folder; and that a file is unreadable
 //! shows only to a user who may not read all.
 
-use crate::FolderTree;
+use crate::{FailedLook, FolderTree};
 use case_order::Case;
-use std::alloc::{AllocError, Global};
-use std::fs::{Files, OpenFile};
+use std::alloc::{AllocError, Allocator, Global};
+use std::fs::{File, Files, Metadata, OpenFile, OpenOptions};
 use std::os::unix::fs::{PermissionsExt, symlink};
 use std::test::Fail;
 use std::{fs, io};
@@ -44,6 +44,19 @@ fn told(alloc: Global, seen: Result<Entry, LookError>) -> Result<String, Fail> {
 fn look<R: Files>(alloc: Global, tree: &mut FolderTree<R>, path: &str) -> Result<String, Fail> {
     let path = Path::parse(alloc, path.as_bytes())?;
     told(alloc, tree.look(&path))
+}
+
+/// A line for each failed look: the path, and the cause in words.
+fn noted(alloc: Global, looks: &[FailedLook]) -> Result<String, Fail> {
+    let mut out = String::new(alloc);
+    for look in looks {
+        let mut path = Vec::new(alloc);
+        look.path.write(&mut path)?;
+        let path = String::from_utf8(path)?;
+        let cause = &look.cause;
+        out.push_str(format!(in alloc; "{path}: {cause}\n")?.as_str())?;
+    }
+    Ok(out)
 }
 
 /// The folder with this name, empty.
@@ -157,7 +170,208 @@ fn faults_are_told(rt: HostRuntime) -> Result<(), Fail> {
         "dir case closed large line links"
     );
     assert_eq!(rt; tree.case(), Case::Insensitive);
+    let unreadable = match closed {
+        "failed" => "/closed/f: Permission denied (os error 13)\n",
+        _ => "",
+    };
+    assert_eq!(rt;
+        noted(alloc, tree.failed_looks())?.as_str(),
+        format!(in alloc;
+            "/line: not a name\n/large/most: too large\n{unreadable}/case: two names the same\n"
+        )?.as_str()
+    );
     fs::remove_dir_all(&rt, "folder_b")?;
+    Ok(())
+}
+
+/// How many bytes the file has that was seen.
+fn length_of(seen: Result<Entry, LookError>) -> Option<usize> {
+    match seen {
+        Ok(Entry::File(bytes)) => Some(bytes.as_slice().len()),
+        _ => None,
+    }
+}
+
+#[test]
+fn files_have_67108864_bytes(rt: HostRuntime) -> Result<(), Fail> {
+    let alloc = rt.alloc();
+    let dir = emptied(&rt, "folder_e")?;
+    fs::create(&rt, "folder_e/most")?.set_len(67_108_864)?;
+    let mut tree = tree_at(&rt, dir)?;
+    let path = Path::parse(alloc, b"/most")?;
+    assert_eq!(rt; length_of(tree.look(&path)), Some(67_108_864));
+    assert_eq!(rt; tree.failed_looks().len(), 0);
+    fs::remove_dir_all(&rt, dir)?;
+    Ok(())
+}
+
+#[test]
+fn failed_looks_are_64(rt: HostRuntime) -> Result<(), Fail> {
+    let alloc = rt.alloc();
+    let dir = emptied(&rt, "folder_f")?;
+    fs::create_dir(&rt, "folder_f/first")?;
+    fs::write(&rt, "folder_f/first/new\nline", "x")?;
+    fs::write(&rt, "folder_f/new\nline", "x")?;
+    let mut tree = tree_at(&rt, dir)?;
+    assert_eq!(rt; look(alloc, &mut tree, "/first")?.as_str(), "failed");
+    for _ in 0..64 {
+        assert_eq!(rt; look(alloc, &mut tree, "/")?.as_str(), "failed");
+    }
+    let noted = noted(alloc, tree.failed_looks())?;
+    assert!(rt;
+        noted
+            .as_str()
+            .starts_with("/first: not a name\n/: not a name\n")
+    );
+    assert_eq!(rt; noted.as_str().lines().count(), 64);
+    fs::remove_dir_all(&rt, dir)?;
+    Ok(())
+}
+
+/// A system in which something stands in another's place once it is opened.
+#[derive(Drop)]
+struct Swapping {
+    rt: HostRuntime,
+    place: &'static str,
+    other: &'static str,
+}
+
+impl Swapping {
+    /// Puts a link to the other in the place, or the other itself where its text is a place's.
+    fn swap(&self) -> io::Result<()> {
+        self.rt.rename(self.place, "folder_g/away")?;
+        if self.other.starts_with("folder_g/") {
+            self.rt.rename(self.other, self.place)
+        } else {
+            self.rt.symlink(self.other, self.place)
+        }
+    }
+}
+
+impl Files for Swapping {
+    type File = File;
+
+    type Dir = <HostRuntime as Files>::Dir;
+
+    fn open_file(&self, how: &OpenOptions, path: &str) -> io::Result<File> {
+        self.swap()?;
+        self.rt.open_file(how, path)
+    }
+
+    fn open_dir(&self, path: &str) -> io::Result<<HostRuntime as Files>::Dir> {
+        self.swap()?;
+        self.rt.open_dir(path)
+    }
+
+    fn metadata(&self, path: &str) -> io::Result<Metadata> {
+        self.rt.metadata(path)
+    }
+
+    fn symlink_metadata(&self, path: &str) -> io::Result<Metadata> {
+        self.rt.symlink_metadata(path)
+    }
+
+    fn copy(&self, from: &str, to: &str) -> io::Result<u64> {
+        self.rt.copy(from, to)
+    }
+
+    fn rename(&self, from: &str, to: &str) -> io::Result<()> {
+        self.rt.rename(from, to)
+    }
+
+    fn remove_file(&self, path: &str) -> io::Result<()> {
+        self.rt.remove_file(path)
+    }
+
+    fn create_dir(&self, path: &str) -> io::Result<()> {
+        self.rt.create_dir(path)
+    }
+
+    fn remove_dir(&self, path: &str) -> io::Result<()> {
+        self.rt.remove_dir(path)
+    }
+
+    fn remove_dir_all<B: Allocator>(&self, alloc: B, path: &str) -> io::Result<()> {
+        self.rt.remove_dir_all(alloc, path)
+    }
+}
+
+/// What a look tells in a folder where another takes this place when the look opens what it is at.
+fn look_while_swapped(
+    rt: &HostRuntime,
+    place: &'static str,
+    other: &'static str,
+    path: &str,
+) -> Result<String, Fail> {
+    let alloc = rt.alloc();
+    let dir = emptied(rt, "folder_g")?;
+    fs::create_dir(rt, "folder_g/d")?;
+    fs::create_dir(rt, "folder_g/e")?;
+    fs::write(rt, "folder_g/f", "inside")?;
+    fs::write(rt, "folder_g/g", "other")?;
+    fs::hard_link(rt, "folder_g/f", "folder_g/d/f")?;
+    fs::hard_link(rt, "folder_g/f", "folder_g/e/f")?;
+    let swapping = Swapping {
+        rt: *rt,
+        place,
+        other,
+    };
+    let mut tree = FolderTree::at(swapping, alloc, String::from_str(alloc, dir)?);
+    let mut out = look(alloc, &mut tree, path)?;
+    out.push_str(" ")?;
+    out.push_str(noted(alloc, tree.failed_looks())?.as_str())?;
+    fs::remove_dir_all(rt, dir)?;
+    Ok(out)
+}
+
+#[test]
+fn swaps_are_told(rt: HostRuntime) -> Result<(), Fail> {
+    for (place, other, path, want) in [
+        // A file, a directory, and a directory on the way to the very same file.
+        (
+            "folder_g/f",
+            "g",
+            "/f",
+            "failed /f: changed while it was looked at\n",
+        ),
+        (
+            "folder_g/f",
+            "folder_g/g",
+            "/f",
+            "failed /f: changed while it was looked at\n",
+        ),
+        (
+            "folder_g/d",
+            "e",
+            "/d",
+            "failed /d: Not a directory (os error 20)\n",
+        ),
+        (
+            "folder_g/d",
+            "folder_g/e",
+            "/d",
+            "failed /d: changed while it was looked at\n",
+        ),
+        (
+            "folder_g/d",
+            "e",
+            "/d/f",
+            "failed /d/f: changed while it was looked at\n",
+        ),
+        (
+            "folder_g/d",
+            "folder_g/e",
+            "/d/f",
+            "failed /d/f: changed while it was looked at\n",
+        ),
+        // What takes no part in the look.
+        ("folder_g/g", "f", "/f", "file inside "),
+        ("folder_g/e", "d", "/d", "dir f "),
+        ("folder_g/e", "d", "/d/f", "file inside "),
+    ] {
+        let told = look_while_swapped(&rt, place, other, path)?;
+        assert_eq!(rt; told.as_str(), want, "{place} {path}");
+    }
     Ok(())
 }
 
@@ -198,6 +412,11 @@ fn folders_end_at_64_names(rt: HostRuntime) -> Result<(), Fail> {
         look(alloc, &mut tree, deep(alloc, 63)?.as_str())?.as_str(),
         "dir a"
     );
+    assert!(rt;
+        noted(alloc, tree.failed_looks())?
+            .as_str()
+            .ends_with("/a: too deep\n")
+    );
     fs::remove_dir_all(&rt, dir)?;
     Ok(())
 }
@@ -221,6 +440,10 @@ fn folders_have_4096_names(rt: HostRuntime) -> Result<(), Fail> {
     assert_eq!(rt; all.as_str().split(' ').count(), 4097);
     write_files(&rt, dir, 4096, 4097)?;
     assert_eq!(rt; look(alloc, &mut tree, "/")?.as_str(), "failed");
+    assert_eq!(rt;
+        noted(alloc, tree.failed_looks())?.as_str(),
+        "/: too many names\n"
+    );
     fs::remove_dir_all(&rt, dir)?;
     Ok(())
 }

@@ -3,7 +3,7 @@
 ghost use Rattle.std.specs.Prelude.{◌≡◌, ◌↔◌, ◌<◌, ◌≤◌, ◌++◌, [], length, min, take, drop, None, Some, Contains, IfOk, IsErr, IsOk, OnErr, OnOk};
 ghost use Rattle.std.specs.Io.{ReadsAtMost};
 ghost use Rattle.std.specs.Io.KnownBytes.{ReadConsumes};
-ghost use Rattle.vfs_model.specs.Faults.{HasCause, next_count};
+ghost use Rattle.vfs_model.specs.Faults.{HasCause, next_count, next_number};
 ghost use Rattle.vfs_io.specs.Told.{IsListed};
 ghost use Rattle.vfs_io.specs.Pieces.{IsZeroAtEnd, Puts};
 ghost use Rattle.vfs_io.specs.Streams.{IsNextToFail, after_failure, after_put, after_take};
@@ -11,35 +11,36 @@ ghost use Rattle.vfs_io.specs.Streams.{IsNextToFail, after_failure, after_put, a
 use crate::traits::{Failed, Sink, Source};
 use std::alloc::Global;
 use std::marker::Model;
+use world_model::FaultCount;
 
 /// The calls to an object in memory: which of them fail, how many were made, how many failed.
 #[derive(Drop)]
 struct Calls {
     fails: Vec<u64>,
     made: u64,
-    faults: u64,
+    faults: FaultCount,
 }
 
 impl Calls {
     fn new(fails: Vec<u64>) -> Calls
-        ensures { result ≡ record { fails = fails; made = 0; faults = 0 } }
+        ensures { result ≡ record { fails = fails; made = 0; faults = record { count = 0 } } }
     {
         Calls {
             fails,
             made: 0,
-            faults: 0,
+            faults: FaultCount::none(),
         }
     }
 
     /// Counts one more call, and fails it where the list has its number.
     fn next(&mut self) -> Result<(), Failed>
-        ensures stated { IsErr result ↔ Contains self.old.fails.items (next_count self.old.made) }
-        ensures ok { OnOk result (self.new ≡ record self.old { made = next_count self.old.made }) }
+        ensures stated { IsErr result ↔ Contains self.old.fails.items (next_number self.old.made) }
+        ensures ok { OnOk result (self.new ≡ record self.old { made = next_number self.old.made }) }
         ensures err { OnErr result (self.new ≡ record self.old {
-          made = next_count self.old.made;
-          faults = next_count self.old.faults;
+          made = next_number self.old.made;
+          faults = record { count = next_count self.old.faults.count };
         }) }
-        ensures later { self.old.faults ≤ self.new.faults }
+        ensures later { self.old.faults.count ≤ self.new.faults.count }
     {
         self.made = self.made.saturating_add(1);
         if self.fails.contains(&self.made) {
@@ -50,10 +51,10 @@ impl Calls {
 
     /// Counts one more fault.
     fn fail(&mut self) -> Failed
-        ensures counted { self.new ≡ record self.old { faults = next_count self.old.faults } }
-        ensures later { self.old.faults ≤ self.new.faults }
+        ensures counted { self.new ≡ record self.old { faults = record { count = next_count self.old.faults.count } } }
+        ensures later { self.old.faults.count ≤ self.new.faults.count }
     {
-        self.faults = self.faults.saturating_add(1);
+        self.faults = self.faults.and_one();
         Failed
     }
 }
@@ -76,7 +77,7 @@ impl Model for MemSource {
       bytes = drop s.taken s.bytes.items;
       fails = s.calls.fails.items;
       calls = s.calls.made;
-      faults = s.calls.faults;
+      faults = s.calls.faults.count;
     } };
 
     ghost invariant = { λ s. s.taken ≤ length s.bytes.items };
@@ -141,7 +142,7 @@ impl Model for MemSink {
       bytes = s.bytes.items;
       fails = s.calls.fails.items;
       calls = s.calls.made;
-      faults = s.calls.faults;
+      faults = s.calls.faults.count;
     } };
 }
 

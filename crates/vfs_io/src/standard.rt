@@ -10,12 +10,13 @@ ghost use Rattle.vfs_io.specs.Pieces.{IsZeroAtEnd, Puts};
 use crate::traits::{Failed, Sink, Source};
 use std::io::{Read, Write};
 use std::marker::Model;
+use world_model::FaultCount;
 
 /// What a reader has left, as a source. Each `Err` of the reader is a fault.
 #[derive(Drop)]
 pub struct StdSource<R: Read> {
     reader: R,
-    faults: u64,
+    faults: FaultCount,
 }
 
 impl<R: Read> Model for StdSource<R> {
@@ -23,7 +24,7 @@ impl<R: Read> Model for StdSource<R> {
 
     ghost Value = { CountedStream };
 
-    ghost view = { λ s. record { bytes = R.remaining s.reader; faults = s.faults } };
+    ghost view = { λ s. record { bytes = R.remaining s.reader; faults = s.faults.count } };
 }
 
 impl<R: Read> StdSource<R> {
@@ -31,7 +32,10 @@ impl<R: Read> StdSource<R> {
     pub fn over(reader: R) -> StdSource<R>
         ensures { result ≡ record { bytes = R.remaining reader; faults = 0 } }
     {
-        StdSource { reader, faults: 0 }
+        StdSource {
+            reader,
+            faults: FaultCount::none(),
+        }
     }
 }
 
@@ -55,7 +59,7 @@ impl<R: Read> Source for StdSource<R> {
         match self.reader.read(buf) {
             Ok(count) => Ok(count),
             Err(_) => {
-                self.faults = self.faults.saturating_add(1);
+                self.faults = self.faults.and_one();
                 Err(Failed)
             }
         }
@@ -70,7 +74,7 @@ impl<R: Read> Source for StdSource<R> {
 #[derive(Drop)]
 pub struct StdSink<W: Write> {
     writer: W,
-    faults: u64,
+    faults: FaultCount,
 }
 
 impl<W: Write> Model for StdSink<W> {
@@ -78,7 +82,7 @@ impl<W: Write> Model for StdSink<W> {
 
     ghost Value = { CountedStream };
 
-    ghost view = { λ s. record { bytes = W.contents s.writer; faults = s.faults } };
+    ghost view = { λ s. record { bytes = W.contents s.writer; faults = s.faults.count } };
 }
 
 impl<W: Write> StdSink<W> {
@@ -86,7 +90,10 @@ impl<W: Write> StdSink<W> {
     pub fn over(writer: W) -> StdSink<W>
         ensures { result ≡ record { bytes = W.contents writer; faults = 0 } }
     {
-        StdSink { writer, faults: 0 }
+        StdSink {
+            writer,
+            faults: FaultCount::none(),
+        }
     }
 }
 
@@ -110,7 +117,7 @@ impl<W: Write> Sink for StdSink<W> {
             match self.writer.write(&piece[done..]) {
                 Ok(count) if count > 0 => done += count,
                 _ => {
-                    self.faults = self.faults.saturating_add(1);
+                    self.faults = self.faults.and_one();
                     return Err(Failed);
                 }
             }

@@ -8,6 +8,7 @@ use std::io::{ErrorKind, Read, Write};
 use std::marker::Model;
 use std::process::Abort;
 use std::test::Fail;
+use world_model::FaultCount;
 
 /// What one call is to answer: the bytes of a take, or the failure of the call.
 type Answer = Result<&'static [u8], Failed>;
@@ -191,7 +192,7 @@ fn sinks_over_writers(rt: HostRuntime) -> Result<(), Fail> {
 struct Listing {
     takes: Vec<usize>,
     pieces: Vec<Piece>,
-    faults: u64,
+    faults: FaultCount,
 }
 
 #[derive(Drop)]
@@ -212,21 +213,21 @@ impl Listing {
         Listing {
             takes: Vec::new(alloc),
             pieces: Vec::new(alloc),
-            faults: 0,
+            faults: FaultCount::none(),
         }
     }
 
     fn fail(&mut self) -> Failed
-        ensures counted { self.new ≡ record self.old { faults = next_count self.old.faults } }
-        ensures later { self.old.faults ≤ self.new.faults }
+        ensures counted { self.new ≡ record self.old { faults = record { count = next_count self.old.faults.count } } }
+        ensures later { self.old.faults.count ≤ self.new.faults.count }
     {
-        self.faults = self.faults.saturating_add(1);
+        self.faults = self.faults.and_one();
         Failed
     }
 }
 
 impl Source for Listing {
-    ghost told = { λ s. record { left = Some []; takes = Some s.takes.items; faults = s.faults } };
+    ghost told = { λ s. record { left = Some []; takes = Some s.takes.items; faults = s.faults.count } };
 
     fn take(&mut self, buf: &mut [u8]) -> Result<usize, Failed> {
         match self.takes.push(buf.len()) {
@@ -245,7 +246,7 @@ fn copied(alloc: Global, piece: &[u8]) -> Result<Piece, AllocError>
 }
 
 impl Sink for Listing {
-    ghost told = { λ s. record { written = None; puts = Some s.pieces.items; faults = s.faults } };
+    ghost told = { λ s. record { written = None; puts = Some s.pieces.items; faults = s.faults.count } };
 
     fn put(&mut self, piece: &[u8]) -> Result<(), Failed> {
         let Ok(copy) = copied(*self.pieces.allocator(), piece) else {

@@ -14,8 +14,7 @@ pub struct Failed;
 /// Where bytes come from.
 pub trait Source {
     /// The bytes that are left, where the source tells them; the length of the buffer of each call
-    /// that did not fail, where it lists them; and how many calls failed, which stands still at the
-    /// last value of a `u64`.
+    /// that did not fail, where it lists them; and how many calls failed.
     ghost told: { Self → SourceTold };
 
     /// Takes the first n bytes that are left into the front of the buffer, and answers n, which is
@@ -36,8 +35,7 @@ pub trait Source {
 /// Where bytes go.
 pub trait Sink {
     /// The bytes that were written, where the sink tells them; the piece of each call that did not
-    /// fail, where it lists them; and how many calls failed, which stands still at the last value of a
-    /// `u64`.
+    /// fail, where it lists them; and how many calls failed.
     ghost told: { Self → SinkTold };
 
     /// Appends the piece to what was written: all of it at `Ok`, and a prefix of it at `Failed`,

@@ -9,7 +9,7 @@ use Rattle.vfs_model.specs.Scanning.{Scan, Look, next_left, is_overtaken}
 use Rattle.vfs_model.specs.Pending.{has_room}
 use Rattle.vfs_model.specs.Fingerprint.{Input}
 use Rattle.vfs_model.specs.State.{State, Call, CallEdit, CallEvent, CallLose, CallDeliver, CallBegin, CallRead, CallPublish, CallDrop, CallFind, CallPart, CallKind, CallVersion, CallFingerprint, Reply, Done, Overflow, Fits, NoMemory, Answers, EditAnswer, Refuses, Does, Outcome, KeptPrint, step, scan_of, all_fit, edit_by, deliver_when, deliver_first, begin_or, read_or, read_next, publish_or, publish_next, publish_when, drop_or, fingerprint_or, fingerprint_when, seen_inputs, is_for_inputs, after_edit, after_event}
-use Rattle.vfs_model.specs.History.{Operation, is_no_memory, after_operation, after, IsLegalOperation, IsLegal, Change, change_kept, changes_of, changes, after_change, after_changes}
+use Rattle.vfs_model.specs.History.{Operation, is_no_memory, after_operation, after, IsAnswered, AreAnswered, Change, change_kept, changes_of, changes, after_change, after_changes}
 use Rattle.vfs_laws.proofs.HistoryLemmas.{stepped}
 
 -- the outcome of a call changes what is retained by its changes
@@ -99,22 +99,27 @@ no_memory-change s call NoMemory g = by call
     by _ = refl
 no_memory-change s call _ g = absurd (true≢false (sym g))
 
-operation-change : (s : State) (o : Operation) → IsLegalOperation s o → IsChange s o.call (record { reply = o.reply; state = after_operation s o })
-operation-change s o legal = by (is_no_memory o.reply) refl
+operation-change : (s : State) (o : Operation) → IsAnswered s o → IsChange s o.call (record { reply = o.reply; state = after_operation s o })
+operation-change s o answered = by (is_no_memory o.reply) refl
   where
     by : (b : Bool) → is_no_memory o.reply ≡ b → IsChange s o.call (record { reply = o.reply; state = if b then s else (step o.answers s o.call).state })
     by true g = record { case = refl; retained = ap (λ cs. after_changes s.case cs s.retained) (sym (no_memory-change s o.call o.reply g)) }
-    by false g = subst (λ r. IsChange s o.call (record { reply = r; state = (step o.answers s o.call).state })) (sym (stepped s o g legal).reply) (step-change o.answers s o.call)
+    by false g = subst (λ r. IsChange s o.call (record { reply = r; state = (step o.answers s o.call).state })) (sym (stepped s o g answered)) (step-change o.answers s o.call)
+
+-- no operation changes the case
+pub after-case : (s : State) (h : List Operation) → AreAnswered s h → (after s h).case ≡ s.case
+after-case s [] answered = refl
+after-case s (o ∷ h) answered = after-case (after_operation s o) h answered.1 ∙ (operation-change s o answered.0).case
 
 after_changes-append : (case : Case) (cs ds : List Change) (r : Retained) → after_changes case (cs ++ ds) r ≡ after_changes case ds (after_changes case cs r)
 after_changes-append case [] ds r = refl
 after_changes-append case (c ∷ cs) ds r = after_changes-append case cs ds (after_change case c r)
 
 -- what is retained after a history is what its changes make of what was retained
-pub retained-changes : (s : State) (h : List Operation) → IsLegal s h → (after s h).retained ≡ after_changes s.case (changes s h) s.retained
-retained-changes s [] legal = refl
-retained-changes s (o ∷ h) legal =
-    let c = operation-change s o legal.0 in
-    retained-changes (after_operation s o) h legal.1
+pub retained-changes : (s : State) (h : List Operation) → AreAnswered s h → (after s h).retained ≡ after_changes s.case (changes s h) s.retained
+retained-changes s [] answered = refl
+retained-changes s (o ∷ h) answered =
+    let c = operation-change s o answered.0 in
+    retained-changes (after_operation s o) h answered.1
     ∙ (λ i. after_changes (c.case i) (changes (after_operation s o) h) (c.retained i))
     ∙ sym (after_changes-append s.case (changes_of s o.call o.reply) (changes (after_operation s o) h) s.retained)

@@ -1,11 +1,14 @@
--- Over a world that is told the answers are due, and a look that is due is in shape.
+-- Over a world that is told the answers are due, and answers that are due are in shape.
 use Rattle.std.proofs.Common.{◌≡◌, ℕ, ◌+◌, [], ◌++◌, length, refl, sym, subst, Option, Some, None, arith, length-append}
 use Rattle.vfs_model.specs.declared.Case.{Case}
-use Rattle.vfs_model.specs.Paths.{Path, place}
+use Rattle.std.specs.List.{AllByRecursion as Each}
+use Rattle.vfs_model.specs.Paths.{Path, IsShort, place}
+use Rattle.vfs_model.specs.Edit.{Edit, Refusal, refusal, events}
 use Rattle.vfs_model.specs.World.{World, Entry, Node, Directory, Regular, at, names, IsWorld}
 use Rattle.vfs_model.specs.Scanning.{Scan, Look, look, look_of, look_of_node, next_left, IsListed}
-use Rattle.vfs_model.specs.State.{State, Call, CallEdit, CallRead, Answers, AreDue, answers, IsLookAt, IsLookFor, look_due_at, look_due, scan_of}
-use Rattle.vfs_model.specs.Sound.{IsLook, IsLookBelow, IsLookOf, AreLooks}
+use Rattle.vfs_model.specs.State.{State, Call, CallEdit, CallRead, Answers, AreDue, answers, edit_answer_or, IsLookAt, IsLookFor, look_due_at, look_due, scan_of}
+use Rattle.vfs_model.specs.Sound.{IsLook, IsLookBelow, IsLookOf, AreShortEvents, AreShapedAnswers}
+use Rattle.vfs_model.specs.History.{IsCall}
 use Rattle.vfs_laws.proofs.NameLemmas.{names-in_order}
 use Rattle.vfs_laws.proofs.WorldLemmas.{length-place}
 use Rattle.vfs_laws.proofs.ScanningLemmas.{names-none}
@@ -50,7 +53,12 @@ looks-for : (s : State) (o : Option Scan) (l : Option Look) → IsWorld s.case s
 looks-for s None l h due = tt
 looks-for s (Some t) l h due = looks-at s t (next_left t.partial) l h due
 
--- a look that is due over a world lists names as a look does
-pub due-looks : (s : State) (call : Call) (a : Answers) → IsWorld s.case s.world → AreDue s call a → AreLooks s call a
-due-looks s (CallRead c) a h due = looks-for s (scan_of s c) a.look h due
-due-looks s _ a h due = tt
+events-for : (edit : Edit) (r : Option Refusal) → Each IsShort (events edit) → AreShortEvents (edit_answer_or edit r)
+events-for edit None few = few
+events-for edit (Some r) few = tt
+
+-- answers that are due over a world are in shape, where the call is one that may be made
+pub due-shaped : (s : State) (call : Call) (a : Answers) → IsCall call → IsWorld s.case s.world → AreDue s call a → AreShapedAnswers s call a
+due-shaped s (CallEdit edit) a few h due = subst AreShortEvents (sym due) (events-for edit (refusal s.case s.world edit) few)
+due-shaped s (CallRead c) a few h due = looks-for s (scan_of s c) a.look h due
+due-shaped s _ a few h due = tt

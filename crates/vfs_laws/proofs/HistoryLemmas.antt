@@ -2,20 +2,22 @@
 use Rattle.std.proofs.Common.{◌≡◌, ℕ, ◌≤◌, Bool, true, false, ◌&&◌, List, [], ◌∷◌, length, find, refl, Option, Some, None, nat_lt, if◌then◌else◌, subst, sym, ◌<◌, arith, ◌↔◌, ◌++◌}
 use Rattle.std.specs.List.{AllByRecursion as Each}
 use Rattle.vfs_model.specs.declared.Case.{Case}
-use Rattle.vfs_model.specs.Paths.{Path, Name, is_same_place, is_child}
+use Rattle.vfs_model.specs.Paths.{Path, Name, IsShort, is_same_place, is_child}
 use Rattle.vfs_model.specs.Edit.{Edit, Refusal, refusal, events}
 use Rattle.vfs_model.specs.Scanning.{Scan, Look, next_left, is_overtaken, PartialSnapshot, Unread, NotThere, FileRead, DirRead, PartialChildren, NoChildren, PartialChild, next_left_in, count_left, count_left_in}
 use Rattle.vfs_model.specs.State.{State, Call, CallEdit, CallEvent, CallLose, CallDeliver, CallBegin, CallRead, CallPublish, CallDrop, CallFind, CallPart, CallKind, CallVersion, CallFingerprint, Answers, AreDue, edit_answer_or, IsLookAt, IsLookFor, after_read, KeptPrint, step, scan_of, edit_by, deliver_when, deliver_first, begin_or, read_or, read_next, publish_or, publish_next, publish_when, drop_or, fingerprint_or, fingerprint_when, seen_inputs, is_for_inputs}
 use Rattle.vfs_model.specs.World.{World, IsWorld}
-use Rattle.vfs_model.specs.History.{IsOpening, Operation, is_no_memory, after_operation, after, IsCall, IsStep, IsLegalOperation, IsLegal, opening, empty_world}
-use Rattle.vfs_model.specs.Fingerprint.{Input}
-use Rattle.vfs_model.specs.Sound.{is_hit_in, IsCurrent, IsStillDir, IsTrueSlot, IsTrueKept, IsTrue, IsSound, IsSettled, IsScanned}
-use Rattle.vfs_model.specs.Retained.{Retained, IsInShape}
+use Rattle.vfs_model.specs.History.{IsOpening, Operation, is_no_memory, after_operation, after, IsCall, EachAt, IsAnswered, AreAnswered, IsLegalOperation, IsLegal, opening, empty_world}
+use Rattle.vfs_model.specs.Fingerprint.{Input, Seen}
+use Rattle.vfs_model.specs.Sound.{IsShortSlot, is_hit_in, IsCurrent, IsStillDir, IsTrueSlot, IsTrueKept, IsTrue, IsSound, IsSettled, IsScanned}
+use Rattle.vfs_model.specs.Retained.{Pair, Retained, IsInShape}
 use Rattle.std.proofs.lemmas.Bool.{both_ways, true≢false}
 use Rattle.vfs_laws.proofs.Splits.{split_or, split_option}
 use Rattle.vfs_laws.proofs.NameLemmas.{each-weaker}
 use Rattle.vfs_laws.proofs.ScanningLemmas.{below_or-none}
 use Rattle.vfs_laws.proofs.LimitLemmas.{step-limits}
+use Rattle.vfs_laws.proofs.ShortLemmas.{step-short}
+use Rattle.vfs_laws.proofs.DueLemmas.{due-shaped}
 use Rattle.vfs_laws.proofs.SoundLemmas.{settled-scanned, after_event-sound, after_loss-sound, after_edit-sound, after_delivery-sound, after_clear-sound, after_close-sound, after_begin-sound, after_read-sound, after_publish-sound, after_fingerprint-sound}
 
 edit_or-sound : (s : State) (edit : Edit) (r : Option Refusal) → refusal s.case s.world edit ≡ r → Each (λ (p : Path). length p ≤ 64) (events edit) → IsTrue s → IsTrue (edit_by s edit (edit_answer_or edit r)).state
@@ -85,13 +87,17 @@ step-true a s (CallFingerprint inputs) few due h = fingerprint_or-sound s inputs
 
 -- a step with answers that are due keeps a state sound
 pub step-sound : (a : Answers) (s : State) (call : Call) → IsCall call → AreDue s call a → IsSound s → IsSound (step a s call).state
-step-sound a s call few due h = record { limits = step-limits a s call few h.limits; known = step-true a s call few due h.known }
+step-sound a s call few due h = record {
+  limits = step-limits a s call few h.limits;
+  short = step-short a s call few (due-shaped s call a few h.known.world due) h.short;
+  known = step-true a s call few due h.known;
+}
 
 -- ---- histories
 
--- an operation that had memory had its step
-pub stepped : (s : State) (o : Operation) → is_no_memory o.reply ≡ false → IsLegalOperation s o → IsStep s o
-stepped s o g legal = split_or legal.reply (λ h. absurd (both_ways _ g (first_true _ _ h))) (λ h. h)
+-- an operation that had memory has the reply of its step
+pub stepped : (s : State) (o : Operation) → is_no_memory o.reply ≡ false → IsAnswered s o → o.reply ≡ (step o.answers s o.call).reply
+stepped s o g answered = split_or answered (λ h. absurd (both_ways _ g (first_true _ _ h))) (λ h. h)
   where
     first_true : (a b : Bool) → (a && b) ≡ true → a ≡ true
     first_true true b h = refl
@@ -103,7 +109,7 @@ after_operation-sound s o legal h = by (is_no_memory o.reply) refl
   where
     by : (b : Bool) → is_no_memory o.reply ≡ b → IsSound (if b then s else (step o.answers s o.call).state)
     by true g = h
-    by false g = step-sound o.answers s o.call legal.call (stepped s o g legal).due h
+    by false g = step-sound o.answers s o.call legal.call (legal.due g) h
 
 -- a legal history keeps a state sound
 pub after-sound : (s : State) (h : List Operation) → IsLegal s h → IsSound s → IsSound (after s h)
@@ -114,6 +120,13 @@ after-sound s (o ∷ h) legal sound = after-sound (after_operation s o) h legal.
 pub opening-sound : (s : State) → IsOpening s → IsSound s
 opening-sound s h = record {
   limits = h.limits;
+  short = record {
+    events = subst (Each IsShort) (sym h.settled.events) tt;
+    scans = each-weaker _ _ (λ o e. subst IsShortSlot (sym e) tt) s.scans h.scans;
+    pairs = subst (λ (r : Retained). Each (λ (p : Pair). IsShort p.path) r.pairs) (sym h.retained) tt;
+    dirs = subst (λ (r : Retained). Each IsShort r.dirs) (sym h.retained) tt;
+    roots = subst (Each (λ (k : KeptPrint). Each (λ (v : Seen). IsShort v.input.root) k.seen)) (sym h.kept) tt;
+  };
   known = record {
     world = h.world;
     shape = subst (IsInShape s.case) (sym h.retained) (record { pairs = tt; trees = tt; dirs = tt; uncovered = tt });
@@ -189,7 +202,16 @@ pub after-push : (s : State) (h : List Operation) (o : Operation) → after s (h
 after-push s [] o = refl
 after-push s (p ∷ h) o = after-push (after_operation s p) h o
 
--- a legal history with a legal operation more is legal
-pub legal-push : (s : State) (h : List Operation) (o : Operation) → IsLegal s h → IsLegalOperation (after s h) o → IsLegal s (h ++ o ∷ [])
-legal-push s [] o legal more = (more, tt)
-legal-push s (p ∷ h) o legal more = (legal.0, legal-push (after_operation s p) h o legal.1 more)
+-- a fact of each operation of a history, and of one operation more, is one of each of both
+pub each_at-push : (fact : State → Operation → Type 0) (s : State) (h : List Operation) (o : Operation) → EachAt fact s h → fact (after s h) o → EachAt fact s (h ++ o ∷ [])
+each_at-push fact s [] o each more = (more, tt)
+each_at-push fact s (p ∷ h) o each more = (each.0, each_at-push fact (after_operation s p) h o each.1 more)
+
+-- what follows from a fact of each operation is one of each
+pub each_at-weaker : (fact other : State → Operation → Type 0) → ((s : State) (o : Operation) → fact s o → other s o) → (s : State) (h : List Operation) → EachAt fact s h → EachAt other s h
+each_at-weaker fact other from s [] each = tt
+each_at-weaker fact other from s (o ∷ h) each = (from s o each.0, each_at-weaker fact other from (after_operation s o) h each.1)
+
+-- a legal history is answered
+pub legal-answered : (s : State) (h : List Operation) → IsLegal s h → AreAnswered s h
+legal-answered s h legal = each_at-weaker IsLegalOperation IsAnswered (λ s o legal. legal.answered) s h legal

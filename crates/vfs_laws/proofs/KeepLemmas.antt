@@ -5,7 +5,7 @@ use Rattle.vfs_model.specs.Paths.{Path}
 use Rattle.vfs_model.specs.World.{World}
 use Rattle.vfs_model.specs.State.{State, Call, Reply, Outcome, Answers, AreDue, step}
 use Rattle.vfs_model.specs.History.{is_no_memory, IsCall}
-use Rattle.vfs_model.specs.Sound.{AreLooks, IsShaped, IsSound}
+use Rattle.vfs_model.specs.Sound.{AreShapedAnswers, IsShaped, IsSound}
 use Rattle.vfs_model.specs.Stands.{Parts, Stands, HasSound}
 use Rattle.vfs_model.specs.Steps.{outcome_unless, IsStepOf}
 use Rattle.vfs_laws.proofs.HistoryLemmas.{step-sound}
@@ -20,10 +20,10 @@ outcome-sound at count new false r s o owed before after sound = record { state 
 
 -- each step of a call that may be made keeps a machine sound
 pub step-keeps : {V : Type 0} (at : V → Path → ℕ) (count : V → ℕ) (old new : Parts V) (a : Answers) (call : Call) (r : Reply) → IsCall call → is_some new.content ≡ is_some old.content
-    → ((s : State) → Stands at count old s → AreLooks s call a) → ((w : World) → old.content ≡ Some w → (s : State) → Stands at count old s → AreDue s call a)
+    → ((s : State) → Stands at count old s → AreShapedAnswers s call a) → ((w : World) → old.content ≡ Some w → (s : State) → Stands at count old s → AreDue s call a)
     → IsStepOf at count old new a call r → HasSound at count old → HasSound at count new
-step-keeps at count old new a call r may told looks due owed h =
-    outcome-sound at count new (is_no_memory r) r s (step a s call) (owed s h.stands) h.shaped (step-shaped a s call may (looks s h.stands) h.shaped) (λ w e. by old.content refl w e)
+step-keeps at count old new a call r may told given due owed h =
+    outcome-sound at count new (is_no_memory r) r s (step a s call) (owed s h.stands) h.shaped (step-shaped a s call may (given s h.stands) h.shaped) (λ w e. by old.content refl w e)
   where
     s : State
     s = h.state

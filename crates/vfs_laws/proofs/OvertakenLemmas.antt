@@ -14,7 +14,7 @@ use Rattle.vfs_model.specs.Retained.{is_covered}
 use Rattle.vfs_model.specs.Pending.{version, version_from, has_room}
 use Rattle.vfs_model.specs.Fingerprint.{Input}
 use Rattle.vfs_model.specs.State.{State, Call, CallEdit, CallEvent, CallLose, CallDeliver, CallBegin, CallRead, CallPublish, CallDrop, CallFind, CallPart, CallKind, CallVersion, CallFingerprint, Reply, Done, Overflow, Fits, Cleared, Delivered, Version, Stale, Answers, EditAnswer, Refuses, Does, Outcome, KeptPrint, step, scan_of, all_fit, edit_by, deliver_when, deliver_first, begin_or, read_or, read_next, publish_or, publish_next, publish_when, drop_or, fingerprint_or, fingerprint_when, seen_inputs, is_for_inputs, after_clear, after_delivery, after_edit, after_event, after_loss, after_begin, after_read, after_publish, after_fingerprint, open_scan, with_scan, Saw}
-use Rattle.vfs_model.specs.History.{Operation, is_no_memory, after_operation, after, IsLegalOperation, IsLegal, is_invalidating, is_on, is_closed_by, is_closing, is_stale, is_invalidated_in, KeepsOpen, is_scan_overtaken, own_read, own_step, own_partial}
+use Rattle.vfs_model.specs.History.{Operation, is_no_memory, after_operation, after, IsAnswered, AreAnswered, is_invalidating, is_on, is_closed_by, is_closing, is_stale, is_invalidated_in, KeepsOpen, is_scan_overtaken, own_read, own_step, own_partial}
 use Rattle.vfs_laws.proofs.HistoryLemmas.{stepped}
 use Rattle.vfs_laws.proofs.Splits.{split}
 use Rattle.vfs_laws.proofs.SoundLemmas.{drop-push}
@@ -233,14 +233,14 @@ own_read-none c (CallRead d) (Saw x k n) l t e = absurd (true≢false (sym e))
 own_read-none c (CallRead d) _ l t e = refl
 own_read-none c _ r l t e = refl
 
-operation-ongoing : (s : State) (o : Operation) (c : ℕ) (t : Scan) → IsLegalOperation s o → is_closing c o ≡ false → scan_of s c ≡ Some t → t.begun_at ≤ length s.past → IsOngoing s c t (own_step c o t.partial) (record { reply = o.reply; state = after_operation s o })
-operation-ongoing s o c t legal keeps is few = by (is_no_memory o.reply) refl
+operation-ongoing : (s : State) (o : Operation) (c : ℕ) (t : Scan) → IsAnswered s o → is_closing c o ≡ false → scan_of s c ≡ Some t → t.begun_at ≤ length s.past → IsOngoing s c t (own_step c o t.partial) (record { reply = o.reply; state = after_operation s o })
+operation-ongoing s o c t answered keeps is few = by (is_no_memory o.reply) refl
   where
     by : (b : Bool) → is_no_memory o.reply ≡ b → IsOngoing s c t (own_read c o.call o.reply o.answers.look t.partial) (record { reply = o.reply; state = if b then s else (step o.answers s o.call).state })
     by true g =
         subst (λ u. IsOngoing s c t u (record { reply = o.reply; state = s })) (sym (own_read-none c o.call o.reply o.answers.look t.partial g)) (quiet-call s s c t o.reply refl refl is (quiet-reply s.case t.path o.reply g))
     by false g =
-        let same = (stepped s o g legal).reply in
+        let same = stepped s o g answered in
         subst (λ r. IsOngoing s c t (own_read c o.call r o.answers.look t.partial) (record { reply = r; state = (step o.answers s o.call).state })) (sym same)
         (ongoing o.answers s o.call c t (subst (λ r. (is_on c o.call && is_closed_by r) ≡ false) same keeps) is few)
 
@@ -256,11 +256,11 @@ record IsSince (s : State) (c : ℕ) (t : Scan) (h : List Operation) : Type 0 wh
   past : (after s h).past ≡ s.past ++ grown
   overtaken : is_overtaken (after s h).case (after s h).past scan ≡ (is_overtaken s.case s.past t || is_invalidated_in s.case t.path h)
 
-since : (s : State) (c : ℕ) (t : Scan) (h : List Operation) → IsLegal s h → KeepsOpen c h → scan_of s c ≡ Some t → t.begun_at ≤ length s.past → IsSince s c t h
-since s c t [] legal keeps is few = record { scan = t; is = is; path = refl; begun_at = refl; partial = refl; case = refl; grown = []; past = sym (append-nil s.past); overtaken = or_false _ }
-since s c t (e ∷ h) legal keeps is few =
-    let o = operation-ongoing s e c t legal.0 keeps.0 is few in
-    let r = since (after_operation s e) c o.scan h legal.1 keeps.1 o.is (omega (arith, few, ap length o.past ∙ length-append s.past o.grown, o.begun_at)) in
+since : (s : State) (c : ℕ) (t : Scan) (h : List Operation) → AreAnswered s h → KeepsOpen c h → scan_of s c ≡ Some t → t.begun_at ≤ length s.past → IsSince s c t h
+since s c t [] answered keeps is few = record { scan = t; is = is; path = refl; begun_at = refl; partial = refl; case = refl; grown = []; past = sym (append-nil s.past); overtaken = or_false _ }
+since s c t (e ∷ h) answered keeps is few =
+    let o = operation-ongoing s e c t answered.0 keeps.0 is few in
+    let r = since (after_operation s e) c o.scan h answered.1 keeps.1 o.is (omega (arith, few, ap length o.past ∙ length-append s.past o.grown, o.begun_at)) in
     record {
       scan = r.scan;
       is = r.is;
@@ -290,11 +290,11 @@ any-drop_all t [] = refl
 any-drop_all t (x ∷ xs) = any-drop_all t xs
 
 -- since its begin a place related to the scan's was invalidated exactly where the scan is overtaken
-pub overtaken-since : (s : State) (c : ℕ) (p : Path) (h : List Operation) → c < length s.scans → IsLegal (after_begin s c p) h → KeepsOpen c h
+pub overtaken-since : (s : State) (c : ℕ) (p : Path) (h : List Operation) → c < length s.scans → AreAnswered (after_begin s c p) h → KeepsOpen c h
     → is_scan_overtaken (after (after_begin s c p) h) (scan_of (after (after_begin s c p) h) c) ≡ is_invalidated_in s.case p h
-overtaken-since s c p h few legal keeps =
+overtaken-since s c p h few answered keeps =
     let t : Scan = record { path = p; begun_at = length s.past; partial = Unread } in
-    let r = since (after_begin s c p) c t h legal keeps (ap open_scan (set-in s.scans c (Some t) few)) (omega arith) in
+    let r = since (after_begin s c p) c t h answered keeps (ap open_scan (set-in s.scans c (Some t) few)) (omega arith) in
     ap (is_scan_overtaken (after (after_begin s c p) h)) r.is ∙ r.overtaken
     ∙ ap (λ b. b || is_invalidated_in s.case p h) (any-drop_all (λ d. is_related d (place s.case p)) s.past)
 
@@ -331,11 +331,11 @@ version-later past since x =
     )
 
 -- what a scan in progress has read is a function of its own entries
-pub partial-own : (s : State) (c : ℕ) (p : Path) (h : List Operation) → c < length s.scans → IsLegal (after_begin s c p) h → KeepsOpen c h
+pub partial-own : (s : State) (c : ℕ) (p : Path) (h : List Operation) → c < length s.scans → AreAnswered (after_begin s c p) h → KeepsOpen c h
     → (t : Scan) × (scan_of (after (after_begin s c p) h) c ≡ Some t) × (t.path ≡ p) × (t.partial ≡ own_partial c h Unread)
-partial-own s c p h few legal keeps =
+partial-own s c p h few answered keeps =
     let t : Scan = record { path = p; begun_at = length s.past; partial = Unread } in
-    let r = since (after_begin s c p) c t h legal keeps (ap open_scan (set-in s.scans c (Some t) few)) (omega arith) in
+    let r = since (after_begin s c p) c t h answered keeps (ap open_scan (set-in s.scans c (Some t) few)) (omega arith) in
     (r.scan, r.is, r.path, r.partial)
 
 -- ---- a publish with nothing left
@@ -357,10 +357,10 @@ stale-or s c (Some u) t e none = stale-next s c u (next_left u.partial) (ap (λ 
     same u t e = cc
 
 -- a publish is stale exactly where a reply since the begin says that a place related to its own was invalidated
-pub stale-told : (a : Answers) (s : State) (c : ℕ) (p : Path) (h : List Operation) (t : Scan) → c < length s.scans → IsLegal (after_begin s c p) h → KeepsOpen c h
+pub stale-told : (a : Answers) (s : State) (c : ℕ) (p : Path) (h : List Operation) (t : Scan) → c < length s.scans → AreAnswered (after_begin s c p) h → KeepsOpen c h
     → scan_of (after (after_begin s c p) h) c ≡ Some t → next_left t.partial ≡ None → is_stale (step a (after (after_begin s c p) h) (CallPublish c)).reply ≡ is_invalidated_in s.case p h
-stale-told a s c p h t few legal keeps is none =
-    stale-or (after (after_begin s c p) h) c (scan_of (after (after_begin s c p) h) c) t is none ∙ overtaken-since s c p h few legal keeps
+stale-told a s c p h t few answered keeps is none =
+    stale-or (after (after_begin s c p) h) c (scan_of (after (after_begin s c p) h) c) t is none ∙ overtaken-since s c p h few answered keeps
 
 -- ---- the number of a stale publish
 
@@ -385,11 +385,11 @@ stale-is s c (Some u) t n is e = subst (λ (v : Scan). (n ≡ version s.past (pl
     same u t e = cc
 
 -- a stale publish answers the version of the scan's path, and that is greater than it was at the scan's begin
-pub stale-grown : (a : Answers) (s : State) (c : ℕ) (p : Path) (h : List Operation) (n : ℕ) → c < length s.scans → IsLegal (after_begin s c p) h → KeepsOpen c h
+pub stale-grown : (a : Answers) (s : State) (c : ℕ) (p : Path) (h : List Operation) (n : ℕ) → c < length s.scans → AreAnswered (after_begin s c p) h → KeepsOpen c h
     → (step a (after (after_begin s c p) h) (CallPublish c)).reply ≡ Stale n → (n ≡ version (after (after_begin s c p) h).past (place s.case p)) × (version s.past (place s.case p) < n)
-stale-grown a s c p h n few legal keeps stale =
+stale-grown a s c p h n few answered keeps stale =
     let t : Scan = record { path = p; begun_at = length s.past; partial = Unread } in
-    let r = since (after_begin s c p) c t h legal keeps (ap open_scan (set-in s.scans c (Some t) few)) (omega arith) in
+    let r = since (after_begin s c p) c t h answered keeps (ap open_scan (set-in s.scans c (Some t) few)) (omega arith) in
     let e = stale-is (after (after_begin s c p) h) c (scan_of (after (after_begin s c p) h) c) r.scan n r.is stale in
     let number : n ≡ version (after (after_begin s c p) h).past (place s.case p) = e.0 ∙ (λ i. version (after (after_begin s c p) h).past (place (r.case i) (r.path i))) in
     let related : list_any (λ d. is_related d (place s.case p)) r.grown ≡ true =

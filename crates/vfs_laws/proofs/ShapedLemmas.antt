@@ -1,4 +1,4 @@
--- Each step keeps a state in shape, whatever the tree tells.
+-- Each step keeps a state in shape, whether or not the tree tells its content.
 use Rattle.std.proofs.Common.{◌≡◌, ℕ, Bool, true, false, List, [], ◌∷◌, length, drop, find, refl, sym, ap, subst, Option, Some, None, arith, nat_lt}
 use Rattle.std.specs.List.{AllByRecursion as Each}
 use Rattle.vfs_model.specs.declared.Case.{Case}
@@ -9,7 +9,7 @@ use Rattle.vfs_model.specs.Retained.{Pair, part_of, IsInShape}
 use Rattle.vfs_model.specs.Scanning.{Scan, Look, Unread, partial_children, partial_names, next_left, snapshot_made, IsListed, IsShallow}
 use Rattle.vfs_model.specs.Fingerprint.{Input, Seen}
 use Rattle.vfs_model.specs.State.{State, KeptPrint, Call, CallEdit, CallEvent, CallLose, CallDeliver, CallBegin, CallRead, CallPublish, CallDrop, CallFind, CallPart, CallKind, CallVersion, CallFingerprint, Answers, EditAnswer, Refuses, Does, step, edit_by, deliver_first, deliver_when, is_touched, with_scan, scan_of, begin_or, read_or, read_next, publish_or, publish_next, publish_when, drop_or, seen_or, seen_inputs, fingerprint_or, fingerprint_when, is_for_inputs}
-use Rattle.vfs_model.specs.Sound.{IsLookBelow, IsLookOf, AreLooks, IsShapedScan, IsShapedSlot, IsShapedPrint, IsShaped, IsTrueSlot, IsSound, is_hit_in}
+use Rattle.vfs_model.specs.Sound.{IsLookBelow, IsLookOf, AreShapedAnswers, IsShapedScan, IsShapedSlot, IsShapedPrint, IsShaped, IsTrueSlot, IsSound, is_hit_in}
 use Rattle.vfs_model.specs.History.{IsCall}
 use Rattle.vfs_laws.proofs.NameLemmas.{each-weaker}
 use Rattle.vfs_laws.proofs.RetainedLemmas.{tree-sub, each-filter}
@@ -20,8 +20,9 @@ use Rattle.vfs_laws.proofs.ContentsLemmas.{after_read-adds}
 use Rattle.vfs_laws.proofs.ShapeLemmas.{after_invalidation-in_shape, after_store-in_shape}
 use Rattle.vfs_laws.proofs.SoundLemmas.{each-set, slot-true}
 use Rattle.vfs_laws.proofs.LimitLemmas.{step-limits, each-with_kept}
+use Rattle.vfs_laws.proofs.ShortLemmas.{step-short}
 
--- all of the shape but the limits
+-- all of the shape but the limits and the paths
 abbrev Shape : State → Type 0
 Shape s = IsInShape s.case s.retained × Each (IsShapedSlot s.case) s.scans × Each (IsShapedPrint s.case) s.kept
 
@@ -103,31 +104,32 @@ fingerprint-shape s inputs None h = by (nat_lt (length (seen_inputs s.case s.ret
     by true = h
     by false = (h.0, h.1, each-with_kept (IsShapedPrint s.case) s.kept _ h.2 (record { digest = refl; trees = seen-trees s.case s.retained.pairs inputs h.0.trees }))
 
-step-shape : (a : Answers) (s : State) (call : Call) → AreLooks s call a → Shape s → Shape (step a s call).state
-step-shape a s (CallEdit edit) looks h = edit-shape s edit a.edit h
-step-shape a s (CallEvent e) looks h = h
-step-shape a s CallLose looks h = h
-step-shape a s CallDeliver looks h = deliver-shape s s.pending.mark h
-step-shape a s (CallBegin c p) looks h = begin-shape s c p (scan_of s c) h
-step-shape a s (CallRead c) looks h = after_read-shape s c (scan_of s c) a.look looks refl h
-step-shape a s (CallPublish c) looks h = publish-shape s c (scan_of s c) refl h
-step-shape a s (CallDrop c) looks h = drop-shape s c (scan_of s c) h
-step-shape a s (CallFind x) looks h = h
-step-shape a s (CallPart x) looks h = h
-step-shape a s (CallKind x) looks h = h
-step-shape a s (CallVersion x) looks h = h
-step-shape a s (CallFingerprint inputs) looks h = fingerprint-shape s inputs (find (λ (k : KeptPrint). is_for_inputs inputs k.seen) s.kept) h
+step-shape : (a : Answers) (s : State) (call : Call) → AreShapedAnswers s call a → Shape s → Shape (step a s call).state
+step-shape a s (CallEdit edit) told h = edit-shape s edit a.edit h
+step-shape a s (CallEvent e) told h = h
+step-shape a s CallLose told h = h
+step-shape a s CallDeliver told h = deliver-shape s s.pending.mark h
+step-shape a s (CallBegin c p) told h = begin-shape s c p (scan_of s c) h
+step-shape a s (CallRead c) told h = after_read-shape s c (scan_of s c) a.look told refl h
+step-shape a s (CallPublish c) told h = publish-shape s c (scan_of s c) refl h
+step-shape a s (CallDrop c) told h = drop-shape s c (scan_of s c) h
+step-shape a s (CallFind x) told h = h
+step-shape a s (CallPart x) told h = h
+step-shape a s (CallKind x) told h = h
+step-shape a s (CallVersion x) told h = h
+step-shape a s (CallFingerprint inputs) told h = fingerprint-shape s inputs (find (λ (k : KeptPrint). is_for_inputs inputs k.seen) s.kept) h
 
--- a step whose look lists names as a look does keeps a state in shape
-pub step-shaped : (a : Answers) (s : State) (call : Call) → IsCall call → AreLooks s call a → IsShaped s → IsShaped (step a s call).state
-step-shaped a s call few looks h =
-    let t = step-shape a s call looks (h.shape, h.scans, h.kept) in
-    record { limits = step-limits a s call few h.limits; shape = t.0; scans = t.1; kept = t.2 }
+-- a step whose answers are in shape keeps a state in shape
+pub step-shaped : (a : Answers) (s : State) (call : Call) → IsCall call → AreShapedAnswers s call a → IsShaped s → IsShaped (step a s call).state
+step-shaped a s call few told h =
+    let t = step-shape a s call told (h.shape, h.scans, h.kept) in
+    record { limits = step-limits a s call few h.limits; short = step-short a s call few told h.short; shape = t.0; scans = t.1; kept = t.2 }
 
 -- a sound state is in shape
 pub sound-shaped : (s : State) → IsSound s → IsShaped s
 sound-shaped s h = record {
   limits = h.limits;
+  short = h.short;
   shape = h.shape;
   scans = each-weaker _ _ slot s.scans h.scans;
   kept = each-weaker _ _ (λ k t. record { digest = t.digest; trees = t.trees }) s.kept h.kept;

@@ -2,14 +2,15 @@
 use Rattle.std.proofs.Common.{◌≡◌, ℕ, suc, ◌≤◌, Bool, false, List, [], ◌∷◌, length, refl, sym, ap, ◌∙◌, subst, Option, Some, None}
 use Rattle.std.specs.List.{AllByRecursion as Each}
 use Rattle.vfs_model.specs.declared.Case.{Case}
-use Rattle.vfs_model.specs.Paths.{Path, place}
+use Rattle.vfs_model.specs.Paths.{Path, IsShort, place}
 use Rattle.vfs_model.specs.World.{World, IsWorld, IsSameBelow}
 use Rattle.vfs_model.specs.Pending.{Pending, is_hit}
-use Rattle.vfs_model.specs.Retained.{Retained}
+use Rattle.vfs_model.specs.Retained.{Pair, Retained}
 use Rattle.vfs_model.specs.Scanning.{Scan}
+use Rattle.vfs_model.specs.Fingerprint.{Seen}
 use Rattle.vfs_model.specs.State.{State, KeptPrint}
-use Rattle.vfs_model.specs.Sound.{IsInputCount, IsInLimits, IsSound, AreScanned, IsSettled}
-use Rattle.vfs_model.specs.Stands.{RunningScan, Parts, AreSlotsOf, Stands, HasSound, has_grown, IsTrueRunning, KnowsTruth}
+use Rattle.vfs_model.specs.Sound.{IsInputCount, IsInLimits, IsShortSlot, HasShortPaths, IsSound, AreScanned, IsSettled}
+use Rattle.vfs_model.specs.Stands.{RunningScan, Parts, IsSlotOf, AreSlotsOf, Stands, HasSound, has_grown, IsTrueRunning, KnowsTruth}
 use Rattle.vfs_laws.proofs.NameLemmas.{each-weaker, some-is}
 use Rattle.vfs_laws.proofs.SameLemmas.{alike-at, same-refl, same-sym, same-trans}
 use Rattle.vfs_laws.proofs.SoundLemmas.{IsQuieter, current-kept, still-kept, telling-kept, kept-kept, settled-scanned}
@@ -72,6 +73,45 @@ limits-along s t scans kept pending h = record {
   events = subst (λ (p : Pending). length p.events ≤ p.capacity) pending h.events;
 }
 
+-- the path of the running scan is short; nothing is asked of a closed one
+abbrev IsShortRunning : Option RunningScan → Type 0
+IsShortRunning None = Unit {0}
+IsShortRunning (Some r) = IsShort r.path
+
+slot-running : (case : Case) (past : List Path) (r : Option RunningScan) (o : Option Scan) → IsSlotOf case past r o → IsShortSlot o → IsShortRunning r
+slot-running case past None None h few = tt
+slot-running case past None (Some s) h few = absurd h
+slot-running case past (Some r) None h few = absurd h
+slot-running case past (Some r) (Some s) h few = subst IsShort h.path few
+
+running-slot : (case : Case) (past : List Path) (r : Option RunningScan) (o : Option Scan) → IsSlotOf case past r o → IsShortRunning r → IsShortSlot o
+running-slot case past None None h few = tt
+running-slot case past None (Some s) h few = absurd h
+running-slot case past (Some r) None h few = absurd h
+running-slot case past (Some r) (Some s) h few = subst IsShort (sym h.path) few
+
+slots-running : (case : Case) (past : List Path) (slots : List (Option RunningScan)) (scans : List (Option Scan)) → AreSlotsOf case past slots scans → Each IsShortSlot scans → Each IsShortRunning slots
+slots-running case past [] [] h few = tt
+slots-running case past [] (s ∷ scans) h few = absurd h
+slots-running case past (r ∷ slots) [] h few = absurd h
+slots-running case past (r ∷ slots) (s ∷ scans) h few = (slot-running case past r s h.0 few.0, slots-running case past slots scans h.1 few.1)
+
+running-slots : (case : Case) (past : List Path) (slots : List (Option RunningScan)) (scans : List (Option Scan)) → AreSlotsOf case past slots scans → Each IsShortRunning slots → Each IsShortSlot scans
+running-slots case past [] [] h few = tt
+running-slots case past [] (s ∷ scans) h few = absurd h
+running-slots case past (r ∷ slots) [] h few = absurd h
+running-slots case past (r ∷ slots) (s ∷ scans) h few = (running-slot case past r s h.0 few.0, running-slots case past slots scans h.1 few.1)
+
+-- of two states that a machine stands for, the paths of both are short where those of one are
+short-along : {V : Type 0} (at : V → Path → ℕ) (count : V → ℕ) (m : Parts V) (s t : State) → Stands at count m s → Stands at count m t → HasShortPaths s → HasShortPaths t
+short-along at count m s t stands other h = record {
+  events = subst (λ (p : Pending). Each IsShort p.events) (stands.pending ∙ sym other.pending) h.events;
+  scans = running-slots m.case t.past m.scans t.scans other.scans (slots-running m.case s.past m.scans s.scans stands.scans h.scans);
+  pairs = subst (λ (r : Retained). Each (λ (p : Pair). IsShort p.path) r.pairs) (stands.retained ∙ sym other.retained) h.pairs;
+  dirs = subst (λ (r : Retained). Each IsShort r.dirs) (stands.retained ∙ sym other.retained) h.dirs;
+  roots = subst (Each (λ (k : KeptPrint). Each (λ (v : Seen). IsShort v.input.root) k.seen)) (stands.kept ∙ sym other.kept) h.roots;
+}
+
 -- each state over a world that a sound machine stands for is sound
 pub states-sound : {V : Type 0} (at : V → Path → ℕ) (count : V → ℕ) (m : Parts V) (w : World) (s : State) → m.content ≡ Some w → Stands at count m s → IsWorld s.case s.world → HasSound at count m → IsSound s
 states-sound at count m w s told stands whole h = record {
@@ -80,6 +120,7 @@ states-sound at count m w s told stands whole h = record {
       (h.stands.kept ∙ sym stands.kept)
       (h.stands.pending ∙ sym stands.pending)
       (h.sound w told).limits;
+  short = short-along at count m h.state s h.stands stands (h.sound w told).short;
   known = truth-from at count m s stands
       (truth-along at count m w s.world told (same-sym m.case s.world w (stands.world w told)) (subst (λ case. IsWorld case s.world) stands.case whole) h);
 }

@@ -17,8 +17,8 @@ ghost use Rattle.vfs_model.specs.Retained.{Pair, Retained, kind_of, part_of, all
 ghost use Rattle.vfs_model.specs.Scanning.{Scan, is_overtaken, Unread, Look, PartialSnapshot, IsFront, look, count_left, next_left, after_look, partial_of_look, contents, walk_of, after_looks, walk_after, first_walk, looks_of, first_of, locations_left, decided_status, partial_at, decided_status_by, IsPartialTree, Reading, readings, path_order};
 ghost use Rattle.vfs_model.specs.Fingerprint.{AreDigests, digest_bytes, lines, Input, Seen, Relative, fingerprint};
 ghost use Rattle.vfs_model.specs.State.{State, Call, CallBegin, CallPublish, CallFingerprint, Answers, Reply, Version, Stale, Is, AreDue, answers, step, after_begin, scan_of};
-ghost use Rattle.vfs_model.specs.History.{own_partial, after_operation, IsLegalOperation, opening, empty_world, IsOpening, changes, after_changes, Operation, after, IsCall, IsLegal, KeepsOpen, is_stale, is_invalidated_in, is_scan_overtaken};
-ghost use Rattle.vfs_model.specs.Sound.{AreLooks, IsShaped, IsInLimits, IsTrue, IsSound, IsSettled, IsScanned, AreScanned, fingerprint_of};
+ghost use Rattle.vfs_model.specs.History.{own_partial, after_operation, IsAnswered, AreAnswered, IsLegalOperation, opening, empty_world, IsOpening, changes, after_changes, Operation, after, IsCall, IsLegal, KeepsOpen, is_stale, is_invalidated_in, is_scan_overtaken};
+ghost use Rattle.vfs_model.specs.Sound.{AreShapedAnswers, IsShaped, IsInLimits, HasShortPaths, IsTrue, IsSound, IsSettled, IsScanned, AreScanned, fingerprint_of};
 ghost use Rattle.vfs_model.specs.Stands.{StandsFor, RunningScan, Parts, IsScanOf, Stands, HasSound, has_grown, KnowsTruth};
 ghost use Rattle.vfs_model.specs.Steps.{IsStepOf};
 
@@ -108,29 +108,29 @@ pub fn reads_add_their_bytes()
     ensures { (l : Look) (s : PartialSnapshot) (y : Path) → IsFront s → next_left s ≡ Some y → (contents (after_look l s) ≡ contents s ++ contents (partial_of_look l)) × IsFront (after_look l s) }
 {}
 
-/// After a begin and a legal history that keeps the scan open, the scan is in progress with the path of its begin, and what it has read is a function of its own operations in the history.
+/// After a begin and an answered history that keeps the scan open, whatever the tree answered in it, the scan is in progress with the path of its begin, and what it has read is a function of its own operations in the history.
 pub fn scans_are_their_own_entries()
-    ensures { (s : State) (c : ℕ) (p : Path) (h : List Operation) → c < length s.scans → IsLegal (after_begin s c p) h → KeepsOpen c h → (t : Scan) × (scan_of (after (after_begin s c p) h) c ≡ Some t) × (t.path ≡ p) × (t.partial ≡ own_partial c h Unread) }
+    ensures { (s : State) (c : ℕ) (p : Path) (h : List Operation) → c < length s.scans → AreAnswered (after_begin s c p) h → KeepsOpen c h → (t : Scan) × (scan_of (after (after_begin s c p) h) c ≡ Some t) × (t.path ≡ p) × (t.partial ≡ own_partial c h Unread) }
 {}
 
 // ---- staleness
 
-/// After a begin and a legal history that keeps the scan open, the scan is overtaken exactly where a reply in the history says that a place related to its path was invalidated; and a version is greater than it was exactly where a related place was invalidated since.
+/// After a begin and an answered history that keeps the scan open, whatever the tree answered in it, the scan is overtaken exactly where a reply in the history says that a place related to its path was invalidated; and a version is greater than it was exactly where a related place was invalidated since.
 pub fn overtaken_is_told()
-    ensures replies { (s : State) (c : ℕ) (p : Path) (h : List Operation) → c < length s.scans → IsLegal (after_begin s c p) h → KeepsOpen c h → is_scan_overtaken (after (after_begin s c p) h) (scan_of (after (after_begin s c p) h) c) ≡ is_invalidated_in s.case p h }
+    ensures replies { (s : State) (c : ℕ) (p : Path) (h : List Operation) → c < length s.scans → AreAnswered (after_begin s c p) h → KeepsOpen c h → is_scan_overtaken (after (after_begin s c p) h) (scan_of (after (after_begin s c p) h) c) ≡ is_invalidated_in s.case p h }
     ensures versions { (past since : List Path) (x : Path) → (version past x < version (past ++ since) x) ↔ (list_any (λ e. is_related e x) since ≡ true) }
 {}
 
-/// After a begin and a legal history that keeps the scan open, a publish with nothing left is stale exactly where a reply in the history says that a place related to its path was invalidated.
+/// After a begin and an answered history that keeps the scan open, whatever the tree answered in it, a publish with nothing left is stale exactly where a reply in the history says that a place related to its path was invalidated.
 pub fn stale_is_told()
-    ensures { (a : Answers) (s : State) (c : ℕ) (p : Path) (h : List Operation) (t : Scan) → c < length s.scans → IsLegal (after_begin s c p) h → KeepsOpen c h → scan_of (after (after_begin s c p) h) c ≡ Some t → next_left t.partial ≡ None → is_stale (step a (after (after_begin s c p) h) (CallPublish c)).reply ≡ is_invalidated_in s.case p h }
+    ensures { (a : Answers) (s : State) (c : ℕ) (p : Path) (h : List Operation) (t : Scan) → c < length s.scans → AreAnswered (after_begin s c p) h → KeepsOpen c h → scan_of (after (after_begin s c p) h) c ≡ Some t → next_left t.partial ≡ None → is_stale (step a (after (after_begin s c p) h) (CallPublish c)).reply ≡ is_invalidated_in s.case p h }
 {}
 
-/// A begin of a closed scan answers the version of its path; and after it and a legal history that keeps the scan open, the number of a stale publish is the version of the path at that time, and greater than the one that the begin answered.
+/// A begin of a closed scan answers the version of its path; and after it and an answered history that keeps the scan open, whatever the tree answered in it, the number of a stale publish is the version of the path at that time, and greater than the one that the begin answered.
 pub fn stale_numbers_have_grown()
     ensures begin { (a : Answers) (s : State) (c : ℕ) (p : Path) → scan_of s c ≡ None → step a s (CallBegin c p) ≡ record { reply = Version (version s.past (place s.case p)); state = after_begin s c p } }
-    ensures number { (a : Answers) (s : State) (c : ℕ) (p : Path) (h : List Operation) (n : ℕ) → c < length s.scans → IsLegal (after_begin s c p) h → KeepsOpen c h → (step a (after (after_begin s c p) h) (CallPublish c)).reply ≡ Stale n → n ≡ version (after (after_begin s c p) h).past (place s.case p) }
-    ensures grown { (a : Answers) (s : State) (c : ℕ) (p : Path) (h : List Operation) (n : ℕ) → c < length s.scans → IsLegal (after_begin s c p) h → KeepsOpen c h → (step a (after (after_begin s c p) h) (CallPublish c)).reply ≡ Stale n → version s.past (place s.case p) < n }
+    ensures number { (a : Answers) (s : State) (c : ℕ) (p : Path) (h : List Operation) (n : ℕ) → c < length s.scans → AreAnswered (after_begin s c p) h → KeepsOpen c h → (step a (after (after_begin s c p) h) (CallPublish c)).reply ≡ Stale n → n ≡ version (after (after_begin s c p) h).past (place s.case p) }
+    ensures grown { (a : Answers) (s : State) (c : ℕ) (p : Path) (h : List Operation) (n : ℕ) → c < length s.scans → AreAnswered (after_begin s c p) h → KeepsOpen c h → (step a (after (after_begin s c p) h) (CallPublish c)).reply ≡ Stale n → version s.past (place s.case p) < n }
 {}
 
 // ---- fingerprints
@@ -163,9 +163,10 @@ pub fn settled_fingerprints_are_of_the_world()
 
 // ---- steps and histories
 
-/// Each step of a call that may be made keeps a state within its limits, whatever the tree answers.
+/// Each step of a call that may be made keeps a state within its limits, whatever the tree answers; and it brings in no path of more than 64 names, where what the tree answers is in shape.
 pub fn steps_keep_limits()
-    ensures { (a : Answers) (s : State) (call : Call) → IsCall call → IsInLimits s → IsInLimits (step a s call).state }
+    ensures numbers { (a : Answers) (s : State) (call : Call) → IsCall call → IsInLimits s → IsInLimits (step a s call).state }
+    ensures paths { (a : Answers) (s : State) (call : Call) → IsCall call → AreShapedAnswers s call a → HasShortPaths s → HasShortPaths (step a s call).state }
 {}
 
 /// Each step of a call that may be made keeps a state sound, where what the tree answers is true of the world; and so does each legal history.
@@ -174,16 +175,16 @@ pub fn steps_keep_sound()
     ensures history { (s : State) (h : List Operation) → IsLegal s h → IsSound s → IsSound (after s h) }
 {}
 
-/// Each step of a call that may be made keeps a state in shape, where the looks of the tree list names as looks do, whether or not it tells its content; and a sound state is in shape.
+/// Each step of a call that may be made keeps a state in shape, where what the tree answers is in shape, whether or not it tells its content; and a sound state is in shape.
 pub fn steps_keep_shape()
-    ensures step { (a : Answers) (s : State) (call : Call) → IsCall call → AreLooks s call a → IsShaped s → IsShaped (step a s call).state }
+    ensures step { (a : Answers) (s : State) (call : Call) → IsCall call → AreShapedAnswers s call a → IsShaped s → IsShaped (step a s call).state }
     ensures sound { (s : State) → IsSound s → IsShaped s }
 {}
 
-/// The answers of a tree that tells its world are true of the world; and a look that is true of a world lists names as looks do.
+/// The answers of a tree that tells its world are true of the world; and answers that are true of a world are in shape, where the call is one that may be made.
 pub fn told_answers_are_due()
     ensures due { (s : State) (call : Call) → AreDue s call (answers s call) }
-    ensures looks { (s : State) (call : Call) (a : Answers) → IsWorld s.case s.world → AreDue s call a → AreLooks s call a }
+    ensures shape { (s : State) (call : Call) (a : Answers) → IsCall call → IsWorld s.case s.world → AreDue s call a → AreShapedAnswers s call a }
 {}
 
 /// The tree that has only its root is a world; an opening state is sound; and the opening over a world, with a capacity of 1 to 65,536, is an opening state.
@@ -193,15 +194,17 @@ pub fn openings_are_openings()
     ensures opening { (case : Case) (capacity : ℕ) (world : World) → 1 ≤ capacity → capacity ≤ 65536 → IsWorld case world → IsOpening (opening case capacity world) }
 {}
 
-/// The state after a history with one operation more is that after the operation; and a legal history with a legal operation more is legal.
+/// The state after a history with one operation more is that after the operation; an answered history with an operation more that is answered is answered; and so it is with what is legal. Each legal history is answered.
 pub fn histories_grow()
     ensures after { (s : State) (h : List Operation) (o : Operation) → after s (h ++ o ∷ []) ≡ after_operation (after s h) o }
+    ensures answered { (s : State) (h : List Operation) (o : Operation) → AreAnswered s h → IsAnswered (after s h) o → AreAnswered s (h ++ o ∷ []) }
     ensures legal { (s : State) (h : List Operation) (o : Operation) → IsLegal s h → IsLegalOperation (after s h) o → IsLegal s (h ++ o ∷ []) }
+    ensures weaker { (s : State) (h : List Operation) → IsLegal s h → AreAnswered s h }
 {}
 
-/// What is retained after a legal history is what the changes of the history make of what was retained before it.
+/// What is retained after an answered history, whatever the tree answered in it, is what the changes of the history make of what was retained before it.
 pub fn changes_tell_what_is_retained()
-    ensures { (s : State) (h : List Operation) → IsLegal s h → (after s h).retained ≡ after_changes s.case (changes s h) s.retained }
+    ensures { (s : State) (h : List Operation) → AreAnswered s h → (after s h).retained ≡ after_changes s.case (changes s h) s.retained }
 {}
 
 /// Where nothing waits and all that is known is true, all that is known is what a scan of the world gives; and so it is after every legal history from an opening state after which nothing waits.
@@ -219,9 +222,9 @@ pub fn machines_know_what_states_know<V>()
     ensures state { (at : V → Path → ℕ) (count : V → ℕ) (m : Parts V) (s : State) → Stands at count m s → KnowsTruth at m s.world → IsTrue s }
 {}
 
-/// Each step of a call that may be made keeps a machine sound, where the looks of its tree list names as looks do and, as long as the tree tells its content, what it answers is true of that; and whether it tells it stays.
+/// Each step of a call that may be made keeps a machine sound, where what its tree answers is in shape and, as long as the tree tells its content, true of that; and whether it tells it stays.
 pub fn machines_stay_sound<V>()
-    ensures { (at : V → Path → ℕ) (count : V → ℕ) (old new : Parts V) (a : Answers) (call : Call) (r : Reply) → IsCall call → is_some new.content ≡ is_some old.content → ((s : State) → Stands at count old s → AreLooks s call a) → ((w : World) → old.content ≡ Some w → (s : State) → Stands at count old s → AreDue s call a) → IsStepOf at count old new a call r → HasSound at count old → HasSound at count new }
+    ensures { (at : V → Path → ℕ) (count : V → ℕ) (old new : Parts V) (a : Answers) (call : Call) (r : Reply) → IsCall call → is_some new.content ≡ is_some old.content → ((s : State) → Stands at count old s → AreShapedAnswers s call a) → ((w : World) → old.content ≡ Some w → (s : State) → Stands at count old s → AreDue s call a) → IsStepOf at count old new a call r → HasSound at count old → HasSound at count new }
 {}
 
 /// What a sound machine knows is true of the content that its tree tells; and so each state that it stands for, whose world is one, is sound.

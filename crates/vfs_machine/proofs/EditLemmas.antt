@@ -1,12 +1,14 @@
 -- A machine that stands for a state still does after an edit.
 use Rattle.std.proofs.Common.{◌≡◌, ℕ, Bool, true, false, List, [], ◌∷◌, ◌++◌, Option, Some, None, refl, sym, ap, ◌∙◌, subst, if◌then◌else◌}
+use Rattle.std.specs.List.{AllByRecursion as Each}
 use Rattle.vfs_model.specs.declared.Case.{Case}
-use Rattle.vfs_model.specs.Paths.{Path}
+use Rattle.vfs_model.specs.Paths.{Path, IsShort}
 use Rattle.vfs_model.specs.World.{World, IsClosed, IsWorld, IsSameBelow, at as at_place}
 use Rattle.vfs_model.specs.Edit.{Edit, Refusal, refusal, apply, events}
 use Rattle.vfs_model.specs.Pending.{Pending, put_all}
 use Rattle.vfs_model.specs.State.{State, TreeAnswer, CallEdit, EditAnswer, Reply, Done, Overflow, Does, all_fit, after_edit, edit_by, edit_answer, edit_answer_or}
 use Rattle.vfs_model.specs.History.{is_no_memory}
+use Rattle.vfs_model.specs.Sound.{AreShortEvents}
 use Rattle.vfs_model.specs.Stands.{Parts, Stands}
 use Rattle.world_model.specs.Meaning.{refusal_of}
 use Rattle.world_model.specs.Told.{IsApplied}
@@ -109,3 +111,10 @@ edit-last s e edited.Done due none = cc
 edit-last s e edited.Overflow due none = cc
 edit-last s e (edited.Refused r) due none = cc
 edit-last s e edited.NoMemory due none = subst (λ (a : EditAnswer). is_before_memory (edit_by s e a).reply ≡ false) due (done-wanting (all_fit (events e) s.pending))
+
+-- what the tree answered tells no path but those of the edit
+pub given-short : (e : Edit) (result : Edited) → Each IsShort (events e) → AreShortEvents (edit_given e result)
+given-short e edited.Done few = few
+given-short e edited.Overflow few = few
+given-short e (edited.Refused r) few = tt
+given-short e edited.NoMemory few = few

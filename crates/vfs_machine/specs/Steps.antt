@@ -4,7 +4,7 @@ use Rattle.vfs_model.specs.Paths.{Path}
 use Rattle.vfs_model.specs.World.{World}
 use Rattle.vfs_model.specs.Edit.{Edit, events}
 use Rattle.vfs_model.specs.Scanning.{Look}
-use Rattle.vfs_model.specs.Sound.{AreLooks}
+use Rattle.vfs_model.specs.Sound.{AreShapedAnswers}
 use Rattle.vfs_model.specs.Stands.{Parts, Stands}
 use Rattle.vfs_model.specs.Steps.{IsStepOf}
 use Rattle.vfs_model.specs.State.{State, CallRead, Reply, Answers, AreDue, EditAnswer, Refuses, Does, TreeAnswer, ToEdit, ToLook, Refused, Done, Overflow, Fits, Cleared, Delivered, NothingPending, AlreadyOpen, Version, NoScan, AllRead, Saw, Unfinished, Stale, Covered, Stored, Fault, Is, Unknown, NoMemory}
@@ -106,7 +106,7 @@ pub record IsRead {V : Type 0} (at : V → Path → ℕ) (count : V → ℕ) (ol
   pub given : Option Look
   pub asked : List TreeAnswer
   pub step : IsStepOf at count old new (read_answers given) (CallRead c) (readed_reply result)
-  pub looks : (s : State) → Stands at count old s → AreLooks s (CallRead c) (read_answers given)
+  pub looks : (s : State) → Stands at count old s → AreShapedAnswers s (CallRead c) (read_answers given)
   pub due : (w : World) → old.content ≡ Some w → (s : State) → Stands at count old s → AreDue s (CallRead c) (read_answers given)
   pub are_asked : AreAsked result given asked
   pub answered : new.answers ≡ option_map (with_answers asked) old.answers

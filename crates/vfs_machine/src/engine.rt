@@ -1,12 +1,12 @@
 //! The engine: the parts of a machine, each of whose calls is the model's step.
 
-ghost use Rattle.std.specs.Prelude.{◌≡◌, ◌<◌, ◌≤◌, ◌^◌, ◌+◌, ◌⊎◌, Some, None, [], ◌∷◌, true, false, IfOk, IfErr, IfSome, IsTrue, OnErr, ◌↔◌, ℕ, length, is_some, map, option_map, replicate};
+ghost use Rattle.std.specs.Prelude.{◌≡◌, ◌<◌, ◌≤◌, ◌^◌, ◌+◌, Some, None, [], ◌∷◌, true, false, IfOk, IfErr, IfSome, IsTrue, OnErr, ◌↔◌, ℕ, length, is_some, map, option_map, replicate};
 ghost use Rattle.std.specs.Option.{option_copied};
 ghost use Rattle.vfs_model.specs.Paths as paths;
 ghost use Rattle.vfs_model.specs.Pending as pending;
 ghost use Rattle.vfs_model.specs.Scanning as scanning;
 ghost use Rattle.vfs_model.specs.State as state;
-ghost use Rattle.vfs_model.specs.Steps.{IsStepOf, IsToldStepOf, IsLogged, IsMemoryLast};
+ghost use Rattle.vfs_model.specs.Steps.{IsStepOf, IsToldStepOf, IsLogged, IsMemoryLast, is_kept};
 ghost use Rattle.world_model.specs.Front.{IsFirst};
 ghost use Rattle.vfs_model.specs.World.{World, IsWorld};
 ghost use Rattle.vfs_model.specs.Faults.{Rose};
@@ -17,6 +17,7 @@ ghost use Rattle.world_model.specs.Meaning.{edit_of, events_of, look_seen};
 ghost use Rattle.world_model.specs.Told.{with_answers};
 ghost use Rattle.world_model.specs.declared.edit.EditError.TheVariants as edit_error;
 ghost use Rattle.vfs_machine.specs.declared.answers.Edited.TheVariants as edited;
+ghost use Rattle.vfs_machine.specs.declared.answers.Printed.TheVariants as printed;
 ghost use Rattle.vfs_machine.specs.declared.answers.Readed.TheVariants as readed;
 ghost use Rattle.scan_walk.specs.Cased.{CasedScan, IsUnder, cased_at, running_of};
 ghost use Rattle.scan_walk.specs.Scans.{running_at, AreDigests, AreContentsOf, IsDone, IsShapedRunning};
@@ -120,8 +121,7 @@ impl<T: Tree, R: Retain, V: Versions> Engine<T, R, V> {
             (edit_answers (edit_of edit.now) result) (state.CallEdit (edit_of edit.now)) (edited_reply result) }
         ensures due { (w : World) → self.old.content ≡ Some w → (s : state.State) → Stands V.version V.count self.old s
             → state.AreDue s (state.CallEdit (edit_of edit.now)) (edit_answers (edit_of edit.now) result) }
-        ensures read_only { T.takes_no_edits ≡ true
-            → (result ≡ edited.Refused edit_error.ReadOnly) ⊎ (result ≡ edited.NoMemory) }
+        ensures read_only { T.takes_no_edits ≡ true → result ≡ edited.Refused edit_error.ReadOnly }
         ensures editable { result ≡ edited.Refused edit_error.ReadOnly → T.takes_no_edits ≡ true }
         ensures tells { is_some self.new.content ≡ is_some self.old.content }
         ensures faults { self.old.faults ≤ self.new.faults }
@@ -337,7 +337,8 @@ impl<T: Tree, R: Retain, V: Versions> Engine<T, R, V> {
             → IsToldStepOf V.version V.count self.old self.new (state.CallRead scan) (readed_reply result) }
         ensures last { (a : state.Answers)
             → IsMemoryLast V.version V.count self.old (λ s. state.step a s (state.CallRead scan)) (readed_reply result) }
-        ensures fault { result ≡ readed.Fault → Rose self.old.faults self.new.faults × (self.new.faults ≤ T.most_faults) }
+        ensures fault { result ≡ readed.Fault → Rose self.old.faults self.new.faults }
+        ensures unfailing { T.never_fails ≡ true → result ≡ readed.Fault → ⊥ }
         ensures faults { self.old.faults ≤ self.new.faults }
         ensures content { self.new.content ≡ self.old.content }
         ensures log { self.new.log ≡ self.old.log }
@@ -524,9 +525,13 @@ impl<T: Tree, R: Retain, V: Versions> Engine<T, R, V> {
 
     /// What is retained at the path.
     ///
-    /// The only error is want of memory.
+    /// The names of its directories are in order under the case, and no child is missing. The only
+    /// error is want of memory, which comes only where something is retained there.
     pub(crate) fn part(&self, path: &Path) -> Result<Option<Snapshot>, NoMemory>
-        ensures { IfOk result (λ part. (a : state.Answers) (s : state.State) → Stands V.version V.count self.now s → state.Part (option_map meaning_of part) ≡ (state.step a s (state.CallPart path.now)).reply) }
+        ensures found { IfOk result (λ part. (a : state.Answers) (s : state.State) → Stands V.version V.count self.now s → state.Part (option_map meaning_of part) ≡ (state.step a s (state.CallPart path.now)).reply) }
+        ensures tree { IfOk result (λ part. IfSome part (λ s. IsTree self.now.case (meaning_of s))) }
+        ensures last { OnErr result ((a : state.Answers)
+            → IsMemoryLast V.version V.count self.now (λ s. state.step a s (state.CallPart path.now)) state.NoMemory) }
     {
         self.vfs.part(path)
     }
@@ -551,12 +556,15 @@ impl<T: Tree, R: Retain, V: Versions> Engine<T, R, V> {
     /// The fingerprint of the inputs: that which is kept for this very list, and else that of what
     /// is retained at their roots, which is kept from now on; where 64 are kept, the oldest goes.
     ///
-    /// `Unknown` comes exactly where none is kept for the list and a root is not retained.
+    /// `Unknown` comes exactly where none is kept for the list and a root is not retained, and
+    /// `NoMemory` only where none is kept for it and each root is retained.
     pub(crate) fn fingerprint(&mut self, inputs: &[Input]) -> Printed
         ensures step { (a : state.Answers)
             → IsStepOf V.version V.count self.old self.new a (state.CallFingerprint (map input_of inputs.now)) (printed_reply result) }
         ensures last { (a : state.Answers)
             → IsMemoryLast V.version V.count self.old (λ s. state.step a s (state.CallFingerprint (map input_of inputs.now))) (printed_reply result) }
+        ensures kept { result ≡ printed.NoMemory → (s : state.State) → Stands V.version V.count self.old s
+            → is_kept s (map input_of inputs.now) ≡ false }
         ensures content { told_of self.new ≡ told_of self.old }
         ensures log { self.new.log ≡ self.old.log }
         ensures versions { self.new.versions ≡ self.old.versions }

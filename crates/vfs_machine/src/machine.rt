@@ -1,6 +1,6 @@
 //! The machine.
 
-ghost use Rattle.std.specs.Prelude.{◌≡◌, ◌<◌, ◌≤◌, ◌^◌, ◌+◌, ◌⊎◌, Some, [], true, false, List, ℕ, IfOk, IfErr, IfSome, IsTrue, ◌↔◌, length, is_some, map, option_map};
+ghost use Rattle.std.specs.Prelude.{◌≡◌, ◌<◌, ◌≤◌, ◌^◌, ◌+◌, Some, [], true, false, List, ℕ, IfOk, IfErr, IfSome, IsTrue, OnErr, ◌↔◌, length, is_some, map, option_map};
 ghost use Rattle.std.specs.Option.{option_copied};
 ghost use Rattle.vfs_model.specs.Paths as paths;
 ghost use Rattle.vfs_model.specs.Pending as pending;
@@ -10,14 +10,16 @@ ghost use Rattle.vfs_model.specs.History as history;
 ghost use Rattle.vfs_model.specs.Sound.{IsSettled, IsSound, AreScanned, fingerprint_of};
 ghost use Rattle.vfs_model.specs.World.{World, IsWorld};
 ghost use Rattle.vfs_model.specs.Faults.{Rose};
+ghost use Rattle.vfs_model.specs.Snapshot.{IsTree};
 ghost use Rattle.vfs_model.specs.Stands.{Stands, StandsFor, HasSound, KnowsTruth};
-ghost use Rattle.vfs_model.specs.Steps.{IsStepOf, IsToldStepOf, IsLogged, IsMemoryLast};
+ghost use Rattle.vfs_model.specs.Steps.{IsStepOf, IsToldStepOf, IsLogged, IsMemoryLast, is_kept};
 ghost use Rattle.snapshot_tree.specs.Meaning.{meaning_of, glance_of};
 ghost use Rattle.snapshot_hierarchy.specs.Held.{nothing};
 ghost use Rattle.world_model.specs.Meaning.{edit_of};
 ghost use Rattle.world_model.specs.Told.{with_answers};
 ghost use Rattle.world_model.specs.declared.edit.EditError.TheVariants as edit_error;
 ghost use Rattle.vfs_machine.specs.declared.answers.Edited.TheVariants as edited;
+ghost use Rattle.vfs_machine.specs.declared.answers.Printed.TheVariants as printed;
 ghost use Rattle.vfs_machine.specs.declared.answers.Readed.TheVariants as readed;
 ghost use Rattle.scan_walk.specs.Scans.{running_at, AreDigests, IsShapedRunning};
 ghost use Rattle.vfs_machine.specs.Deliveries.{Counts};
@@ -113,8 +115,7 @@ impl<T: Tree, R: Retain, V: Versions> Machine<T, R, V> {
             (state.CallEdit (edit_of edit.now)) (edited_reply result) }
         ensures last { (w : World) → self.old.content ≡ Some w
             → IsMemoryLast V.version V.count self.old (λ s. state.told_step s (state.CallEdit (edit_of edit.now))) (edited_reply result) }
-        ensures read_only { T.takes_no_edits ≡ true
-            → (result ≡ edited.Refused edit_error.ReadOnly) ⊎ (result ≡ edited.NoMemory) }
+        ensures read_only { T.takes_no_edits ≡ true → result ≡ edited.Refused edit_error.ReadOnly }
         ensures editable { result ≡ edited.Refused edit_error.ReadOnly → T.takes_no_edits ≡ true }
         ensures tells { is_some self.new.content ≡ is_some self.old.content }
         ensures faults { self.old.faults ≤ self.new.faults }
@@ -221,7 +222,8 @@ impl<T: Tree, R: Retain, V: Versions> Machine<T, R, V> {
             → IsToldStepOf V.version V.count self.old self.new (state.CallRead scan) (readed_reply result) }
         ensures last { (a : state.Answers)
             → IsMemoryLast V.version V.count self.old (λ s. state.step a s (state.CallRead scan)) (readed_reply result) }
-        ensures fault { result ≡ readed.Fault → Rose self.old.faults self.new.faults × (self.new.faults ≤ T.most_faults) }
+        ensures fault { result ≡ readed.Fault → Rose self.old.faults self.new.faults }
+        ensures unfailing { T.never_fails ≡ true → result ≡ readed.Fault → ⊥ }
         ensures faults { self.old.faults ≤ self.new.faults }
         ensures content { self.new.content ≡ self.old.content }
         ensures log { self.new.log ≡ self.old.log }
@@ -259,7 +261,7 @@ impl<T: Tree, R: Retain, V: Versions> Machine<T, R, V> {
         ensures last { (a : state.Answers)
             → IsMemoryLast V.version V.count self.old (λ s. state.step a s (state.CallPublish scan)) (answer_reply result) }
         ensures stale { (s : state.State) (p : paths.Path) (h : List history.Operation) → scan < length s.scans
-            → history.IsLegal (state.after_begin s scan p) h → history.KeepsOpen scan h
+            → history.AreAnswered (state.after_begin s scan p) h → history.KeepsOpen scan h
             → Stands V.version V.count self.old (history.after (state.after_begin s scan p) h)
             → IsStaleWhere (history.is_invalidated_in s.case p h) (pending.version s.past (paths.place s.case p))
             (pending.version (history.after (state.after_begin s scan p) h).past (paths.place s.case p)) result }
@@ -304,10 +306,14 @@ impl<T: Tree, R: Retain, V: Versions> Machine<T, R, V> {
 
     /// What is retained at the path.
     ///
-    /// The only error is want of memory.
+    /// The names of its directories are in order under the case, and no child is missing. The only
+    /// error is want of memory, which comes only where something is retained there.
     pub fn part(&self, path: &Path) -> Result<Option<Snapshot>, NoMemory>
-        ensures { IfOk result (λ part. (a : state.Answers) (s : state.State) → Stands V.version V.count self.now s
+        ensures found { IfOk result (λ part. (a : state.Answers) (s : state.State) → Stands V.version V.count self.now s
             → state.Part (option_map meaning_of part) ≡ (state.step a s (state.CallPart path.now)).reply) }
+        ensures tree { IfOk result (λ part. IfSome part (λ s. IsTree self.now.case (meaning_of s))) }
+        ensures last { OnErr result ((a : state.Answers)
+            → IsMemoryLast V.version V.count self.now (λ s. state.step a s (state.CallPart path.now)) state.NoMemory) }
     {
         self.engine.part(path)
     }
@@ -335,8 +341,9 @@ impl<T: Tree, R: Retain, V: Versions> Machine<T, R, V> {
     ///
     /// A kept fingerprint goes with the delivery of an event that is related to one of its roots,
     /// and all go with the mark. `Unknown(i)` comes exactly where none is kept for the list and the
-    /// root of input `i`, counted from 0, is the first that is not retained. Where nothing is
-    /// pending and the tree tells its content, the fingerprint is that of the content.
+    /// root of input `i`, counted from 0, is the first that is not retained. `NoMemory` comes only
+    /// where none is kept for the list and each root is retained. Where nothing is pending and the
+    /// tree tells its content, the fingerprint is that of the content.
     pub fn fingerprint(&mut self, inputs: &[Input]) -> Printed
         requires some { 1 ≤ length inputs.now }
         requires few { length inputs.now ≤ 64 }
@@ -344,6 +351,8 @@ impl<T: Tree, R: Retain, V: Versions> Machine<T, R, V> {
             → IsStepOf V.version V.count self.old self.new a (state.CallFingerprint (map input_of inputs.now)) (printed_reply result) }
         ensures last { (a : state.Answers)
             → IsMemoryLast V.version V.count self.old (λ s. state.step a s (state.CallFingerprint (map input_of inputs.now))) (printed_reply result) }
+        ensures kept { result ≡ printed.NoMemory → (s : state.State) → Stands V.version V.count self.old s
+            → is_kept s (map input_of inputs.now) ≡ false }
         ensures world { (w : World) (digest : List ℕ) → self.old.content ≡ Some w
             → self.old.pending.events ≡ [] → self.old.pending.mark ≡ false
             → printed_reply result ≡ state.Is digest

@@ -2,8 +2,7 @@
 
 ghost use Rattle.std.specs.Prelude.{◌≡◌, IfOk, is_some, length, map};
 ghost use Rattle.std.specs.List.{AllByRecursion as Each};
-ghost use Rattle.vfs_model.specs.History.{IsShort};
-ghost use Rattle.vfs_model.specs.Paths.{place};
+ghost use Rattle.vfs_model.specs.Paths.{IsShort, place};
 ghost use Rattle.vfs_model.specs.Retained.{part_of};
 ghost use Rattle.vfs_model.specs.State.{seen_inputs};
 ghost use Rattle.vfs_machine.specs.Roots.{unknown_of};

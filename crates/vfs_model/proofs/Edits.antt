@@ -1,7 +1,8 @@
 -- Edits: why each is refused, in which order, and what is told of one that is done.
-use Rattle.std.proofs.Common.{◌≡◌, ℕ, zero, suc, ◌+◌, ◌/◌, ◌%◌, [], ◌∷◌, ◌++◌, Some, None, refl}
+use Rattle.std.proofs.Common.{◌≡◌, ℕ, zero, suc, ◌+◌, ◌/◌, ◌%◌, [], ◌∷◌, ◌++◌, Some, None, refl, map}
 use Rattle.vfs_model.specs.declared.Case.TheVariants.{Sensitive}
-use Rattle.vfs_model.specs.World.{World, names}
+use Rattle.vfs_model.specs.Paths.{Path}
+use Rattle.vfs_model.specs.World.{World, Entry, names}
 use Rattle.vfs_model.specs.Edit.{Write, Mkdir, Remove, Move, Root, NoParent, NotDir, Exists, Absent, IntoItself, TooDeep, Crowded, refusal, apply}
 use Rattle.vfs_model.specs.State.{CallEdit, CallDeliver, Refused, Done, Delivered, NothingPending}
 use Rattle.vfs_model.proofs.Shorthand.{IsRun, start, root, file, dir, deep, a, b, d, e, f, n, q, w, x, y, z}
@@ -163,6 +164,18 @@ no_path_has_65_names : IsRun (start Sensitive 1024 (nest 63 ++ (dir (y ∷ []) �
     ∷ [])
 no_path_has_65_names = refl
 
+-- where something stands at the place to which a move leads, that is answered, also where paths below would be too deep
+exists_comes_before_too_deep : IsRun (start Sensitive 1024 (nest 63 ++ (dir (y ∷ []) ∷ file (y ∷ z ∷ []) a ∷ file (deep 63 ++ q ∷ []) b ∷ []))) (
+    (CallEdit (Move (y ∷ []) (deep 63 ++ q ∷ [])), Refused Exists)
+    ∷ (CallEdit (Move (deep 63 ++ q ∷ []) (deep 64)), Done)
+    ∷ (CallEdit (Move (y ∷ []) (deep 63 ++ z ∷ [])), Refused TooDeep)
+    ∷ (CallEdit (Move (y ∷ []) (deep 63)), Refused Exists)
+    ∷ (CallDeliver, Delivered (deep 63 ++ q ∷ []))
+    ∷ (CallDeliver, Delivered (deep 64))
+    ∷ (CallDeliver, NothingPending)
+    ∷ [])
+exists_comes_before_too_deep = refl
+
 -- so many files, their names of two bytes, from the number k on
 abbrev crowd : ℕ → ℕ → World
 crowd zero k = []
@@ -182,3 +195,19 @@ a_full_directory_takes_a_rewrite = refl
 
 a_full_directory_takes_a_move_within : refusal Sensitive (root ∷ crowd 4096 0) (Move ((0 ∷ 7 ∷ []) ∷ []) (x ∷ [])) ≡ None
 a_full_directory_takes_a_move_within = refl
+
+-- the same files below a path
+abbrev crowd_below : Path → ℕ → World
+crowd_below p n = map (λ (e : Entry). record { path = p ++ e.path; node = e.node }) (crowd n 0)
+
+-- a full directory of 63 names, and what would be moved into it
+abbrev full_and_deep : World
+full_and_deep = root ∷ dir (y ∷ []) ∷ file (y ∷ z ∷ []) a ∷ nest 63 ++ crowd_below (deep 63) 4096
+
+-- where paths would be too deep and the directory is full, the depth is answered
+too_deep_comes_before_crowded : refusal Sensitive full_and_deep (Move (y ∷ []) (deep 63 ++ q ∷ [])) ≡ Some TooDeep
+too_deep_comes_before_crowded = refl
+
+-- where none would be too deep, that it is full
+a_full_directory_takes_no_move : refusal Sensitive full_and_deep (Move (y ∷ z ∷ []) (deep 63 ++ q ∷ [])) ≡ Some Crowded
+a_full_directory_takes_no_move = refl

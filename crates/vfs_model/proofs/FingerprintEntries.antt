@@ -103,6 +103,11 @@ two_roots_in_order : sorted (all_entries Sensitive [] (seen (h ∷ []) Ignored (
     ≡ entry [] 70 md5_of_a ∷ entry [] 70 md5_of_abc ∷ []
 two_roots_in_order = refl
 
+-- of entries with one path the kind is compared before the digest: a file stands before what is missing, which has no digest
+kinds_come_before_digests : sorted (all_entries Sensitive [] (seen (z ∷ []) NameOnly Missing ∷ seen (r ∷ z ∷ []) NameOnly (File md5_of_a) ∷ []))
+    ≡ entry z 70 md5_of_a ∷ entry z 77 [] ∷ []
+kinds_come_before_digests = refl
+
 -- the bytes of a relative file
 bytes_of_a_relative_file : flat_map entry_bytes (sorted (all_entries Sensitive [] (seen (h ∷ []) Relative (File md5_of_a) ∷ [])))
     ≡ (0 ∷ 0 ∷ 0 ∷ 1 ∷ 104 ∷ 70 ∷ 0 ∷ 0 ∷ 0 ∷ 16 ∷ 12 ∷ 193 ∷ 117 ∷ 185 ∷ 192 ∷ 241 ∷ 182 ∷ 168 ∷ 49 ∷ 195 ∷ 153 ∷ 226 ∷ 105 ∷ 119 ∷ 38 ∷ 97 ∷ [])

@@ -63,6 +63,22 @@ fingerprints_of_the_root : IsRun (start Insensitive 1024 (dir (R ∷ []) ∷ fil
 unfolding fingerprint digest_of_bytes md5 digest_bytes hash_after compress rounds block_words
 fingerprints_of_the_root = refl
 
+-- a missing root beside a file of that name, in either order of the inputs: the file's entry is the first
+a_missing_root_beside_a_file_of_its_name : IsRun (start Sensitive 1024 (dir (r ∷ []) ∷ file (r ∷ z ∷ []) a ∷ [])) (
+    (CallBegin 0 (z ∷ []), Version 0)
+    ∷ (CallRead 0, Saw (z ∷ []) MissingKind 0)
+    ∷ (CallPublish 0, Stored)
+    ∷ (CallBegin 0 (r ∷ []), Version 0)
+    ∷ (CallRead 0, Saw (r ∷ []) DirKind 1)
+    ∷ (CallRead 0, Saw (r ∷ z ∷ []) FileKind 0)
+    ∷ (CallPublish 0, Stored)
+    ∷ (CallFingerprint (input (z ∷ []) NameOnly ∷ input (r ∷ z ∷ []) NameOnly ∷ []), Is (212 ∷ 197 ∷ 183 ∷ 38 ∷ 216 ∷ 186 ∷ 23 ∷ 138 ∷ 47 ∷ 6 ∷ 194 ∷ 244 ∷ 52 ∷ 89 ∷ 49 ∷ 3 ∷ []))
+    ∷ (CallFingerprint (input (r ∷ z ∷ []) NameOnly ∷ input (z ∷ []) NameOnly ∷ []), Is (212 ∷ 197 ∷ 183 ∷ 38 ∷ 216 ∷ 186 ∷ 23 ∷ 138 ∷ 47 ∷ 6 ∷ 194 ∷ 244 ∷ 52 ∷ 89 ∷ 49 ∷ 3 ∷ []))
+    ∷ (CallFingerprint (input (z ∷ []) Ignored ∷ input (r ∷ z ∷ []) Ignored ∷ []), Is (139 ∷ 54 ∷ 229 ∷ 86 ∷ 118 ∷ 93 ∷ 102 ∷ 213 ∷ 129 ∷ 169 ∷ 22 ∷ 9 ∷ 37 ∷ 164 ∷ 14 ∷ 76 ∷ []))
+    ∷ [])
+unfolding fingerprint digest_of_bytes md5 digest_bytes hash_after compress rounds block_words
+a_missing_root_beside_a_file_of_its_name = refl
+
 -- the inputs of a build, the same again, and once more after a write below one of them
 a_build_again_and_after_a_write : IsRun (start Sensitive 1024 (dir (s ∷ []) ∷ file (s ∷ x ∷ []) sx ∷ file (s ∷ y ∷ []) sy ∷ dir (l ∷ []) ∷ file (l ∷ z ∷ []) lz ∷ dir (c ∷ []) ∷ file (c ∷ w ∷ []) cw ∷ [])) (
     (CallDeliver, NothingPending)

@@ -10,7 +10,7 @@ use Rattle.vfs_model.specs.Scanning.{Scan, PartialSnapshot, Unread, FileRead, Di
 use Rattle.vfs_model.specs.Fingerprint.{Absolute, fingerprint}
 use Rattle.vfs_model.specs.State.{State, KeptPrint}
 use Rattle.vfs_model.specs.Sound.{IsSound}
-use Rattle.vfs_model.proofs.Shorthand.{root, file, dir, start, seen, A, a, b, d, f}
+use Rattle.vfs_model.proofs.Shorthand.{root, file, dir, deep, start, seen, A, a, b, d, f}
 
 same_letter : (a b : ℕ) → Some (a ∷ []) ≡ Some (b ∷ []) → a ≡ b
 same_letter a b e = cc
@@ -132,3 +132,38 @@ scans_of_another_number h = let same = h.limits.scans in cc
 -- a queue that holds nothing
 queue_without_room : IsSound (start Sensitive 0 []) → ⊥
 queue_without_room h = let same = h.limits.some_room in omega arith
+
+-- an event waits at a path of 65 names
+abbrev long_event : State
+long_event = state Sensitive [] (deep 65 ∷ []) [] [] [] []
+
+event_of_65_names : IsSound long_event → ⊥
+event_of_65_names h = let few = h.short.events.0 in omega arith
+
+-- a scan of such a path has begun
+abbrev long_scan : State
+long_scan = state Sensitive [] [] [] [] (Some (record { path = deep 65; begun_at = 0; partial = Unread }) ∷ []) []
+
+scan_of_65_names : IsSound long_scan → ⊥
+scan_of_65_names h = let few = h.short.scans.0 in omega arith
+
+-- such a path is retained as missing, as it is
+abbrev long_pair : State
+long_pair = state Sensitive [] [] (record { path = deep 65; snapshot = Missing } ∷ []) [] [] []
+
+pair_of_65_names : IsSound long_pair → ⊥
+pair_of_65_names h = let few = h.short.pairs.0 in omega arith
+
+-- such a path counts as a directory, and an event above excuses that there is none
+abbrev long_directory : State
+long_directory = state Sensitive [] (deep 1 ∷ []) [] (deep 65 ∷ []) [] []
+
+directory_of_65_names : IsSound long_directory → ⊥
+directory_of_65_names h = let few = h.short.dirs.0 in omega arith
+
+-- a fingerprint of such a root is kept
+abbrev long_root : State
+long_root = state Sensitive [] [] [] [] [] (record { seen = seen (deep 65) Absolute Missing ∷ []; digest = fingerprint Sensitive (seen (deep 65) Absolute Missing ∷ []) } ∷ [])
+
+root_of_65_names : IsSound long_root → ⊥
+root_of_65_names h = let few = h.short.roots.0.0 in omega arith

@@ -165,6 +165,9 @@ x = 120 ∷ []
 abbrev pub y : Name
 y = 121 ∷ []
 
+abbrev pub Z : Name
+Z = 90 ∷ []
+
 abbrev pub z : Name
 z = 122 ∷ []
 

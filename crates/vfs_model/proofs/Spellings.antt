@@ -6,7 +6,7 @@ use Rattle.vfs_model.specs.World.{digest_of_bytes}
 use Rattle.vfs_model.specs.Edit.{Write, Move, Exists, IntoItself}
 use Rattle.vfs_model.specs.Snapshot.{File, Dir, Nothing, Child}
 use Rattle.vfs_model.specs.State.{CallEdit, CallEvent, CallDeliver, CallBegin, CallRead, CallPublish, CallFind, CallPart, CallKind, CallVersion, Refused, Done, Fits, Delivered, NothingPending, Version, AllRead, Saw, Stored, Found, KindIs, Part}
-use Rattle.vfs_model.proofs.Shorthand.{IsRun, start, file, dir, found_file, A, a, abc, B, b, C, c, D, d, E, e, LIB, Lib, lIb, lib, NEW, new, Q, q, SRC, Src, sRC, sRc, srC, src, X, x, y}
+use Rattle.vfs_model.proofs.Shorthand.{IsRun, start, file, dir, found_file, found_missing, A, a, abc, B, b, C, c, D, d, E, e, LIB, Lib, lIb, lib, NEW, new, Q, q, SRC, Src, sRC, sRc, srC, src, X, x, y, Z, z}
 
 -- one spelling finds what was scanned in another, and a move to another spelling is told
 a_move_changes_the_spelling : IsRun (start Insensitive 1024 (dir (a ∷ []) ∷ file (a ∷ x ∷ []) abc ∷ [])) (
@@ -96,3 +96,24 @@ a_move_to_the_same_location : IsRun (start Insensitive 1024 (dir (d ∷ []) ∷ 
     ∷ (CallDeliver, NothingPending)
     ∷ [])
 a_move_to_the_same_location = refl
+
+-- Z is the last letter that has a small one, and the bytes next to the letters have none: 64 and 96, 91 and 123 are apart
+the_letters_end_at_z : IsRun (start Insensitive 1024 (file (Z ∷ []) abc ∷ file ((64 ∷ []) ∷ []) a ∷ file ((91 ∷ []) ∷ []) b ∷ [])) (
+    (CallBegin 0 [], Version 0)
+    ∷ (CallRead 0, Saw [] DirKind 3)
+    ∷ (CallRead 0, Saw ((64 ∷ []) ∷ []) FileKind 2)
+    ∷ (CallRead 0, Saw ((91 ∷ []) ∷ []) FileKind 1)
+    ∷ (CallRead 0, Saw (Z ∷ []) FileKind 0)
+    ∷ (CallPublish 0, Stored)
+    ∷ (CallFind (z ∷ []), found_file (digest_of_bytes abc))
+    ∷ (CallFind ((64 ∷ []) ∷ []), found_file (digest_of_bytes a))
+    ∷ (CallFind ((96 ∷ []) ∷ []), found_missing)
+    ∷ (CallFind ((91 ∷ []) ∷ []), found_file (digest_of_bytes b))
+    ∷ (CallFind ((123 ∷ []) ∷ []), found_missing)
+    ∷ (CallEvent (z ∷ []), Fits)
+    ∷ (CallDeliver, Delivered (z ∷ []))
+    ∷ (CallVersion (Z ∷ []), Version 1)
+    ∷ (CallVersion ((64 ∷ []) ∷ []), Version 0)
+    ∷ (CallFind (Z ∷ []), Found None)
+    ∷ [])
+the_letters_end_at_z = refl

@@ -1,7 +1,7 @@
 -- Histories: calls, what the tree answered in them, and replies.
 use Rattle.std.specs.Prelude.{◌≡◌, ℕ, ◌≤◌, ◌<◌, Bool, true, false, ◌&&◌, List, [], ◌∷◌, ◌++◌, length, if◌then◌else◌, nat_eq, Option, Some, None, ◌⊎◌, replicate}
 use Rattle.std.specs.List.{list_any, AllByRecursion as Each}
-use Rattle.vfs_model.specs.Paths.{Path, Case, place, is_related}
+use Rattle.vfs_model.specs.Paths.{Path, Case, place, IsShort, is_related}
 use Rattle.vfs_model.specs.World.{IsWorld, World, Directory}
 use Rattle.vfs_model.specs.Edit.{events}
 use Rattle.vfs_model.specs.Snapshot.{Snapshot}
@@ -31,10 +31,6 @@ after_operation s o = if is_no_memory o.reply then s else (step o.answers s o.ca
 abbrev pub after : State → List Operation → State
 after s [] = s
 after s (o ∷ h) = after (after_operation s o) h
-
--- the path has at most 64 names
-abbrev pub IsShort : Path → Type 0
-IsShort p = length p ≤ 64
 
 -- 1 to 64 inputs, whose roots are short
 pub record AreInputs (inputs : List Input) : Type 0 where
@@ -68,20 +64,28 @@ takes_memory (CallKind x) = false
 takes_memory (CallVersion x) = false
 takes_memory _ = true
 
--- the reply is that of the step, and what the tree answered is true of the world
-pub record IsStep (s : State) (o : Operation) : Type 0 where
-  pub due : AreDue s o.call o.answers
-  pub reply : o.reply ≡ (step o.answers s o.call).reply
+-- the reply is that of the step for what the tree answered, or it says that memory was wanting, of a call that takes memory
+abbrev pub IsAnswered : State → Operation → Type 0
+IsAnswered s o = ((is_no_memory o.reply && takes_memory o.call) ≡ true) ⊎ (o.reply ≡ (step o.answers s o.call).reply)
 
--- the call is one that may be made, and either it takes memory and that was wanting, or it had its step
+-- the call is one that may be made, it is answered, and unless memory was wanting what the tree answered is true of the world
 pub record IsLegalOperation (s : State) (o : Operation) : Type 0 where
   pub call : IsCall o.call
-  pub reply : ((is_no_memory o.reply && takes_memory o.call) ≡ true) ⊎ IsStep s o
+  pub answered : IsAnswered s o
+  pub due : is_no_memory o.reply ≡ false → AreDue s o.call o.answers
+
+-- the fact holds of each operation, and of the state in which it stands
+abbrev pub EachAt : (State → Operation → Type 0) → State → List Operation → Type 0
+EachAt fact s [] = Unit {0}
+EachAt fact s (o ∷ h) = fact s o × EachAt fact (after_operation s o) h
+
+-- each operation is answered where it stands, whatever the tree answered
+abbrev pub AreAnswered : State → List Operation → Type 0
+AreAnswered = EachAt IsAnswered
 
 -- each operation is legal where it stands
 abbrev pub IsLegal : State → List Operation → Type 0
-IsLegal s [] = Unit {0}
-IsLegal s (o ∷ h) = IsLegalOperation s o × IsLegal (after_operation s o) h
+IsLegal = EachAt IsLegalOperation
 
 -- ---- what invalidates a place
 

@@ -1,5 +1,5 @@
 -- Names, paths and their places.
-use Rattle.std.specs.Prelude.{ℕ, ◌+◌, Bool, true, false, ◌&&◌, ◌||◌, List, [], ◌∷◌, map, nat_le, nat_eq, if◌then◌else◌}
+use Rattle.std.specs.Prelude.{ℕ, ◌+◌, ◌≤◌, length, Bool, true, false, ◌&&◌, ◌||◌, List, [], ◌∷◌, map, nat_le, nat_eq, if◌then◌else◌}
 use Rattle.std.specs.Cmp.Lexicographic.{pointwise, slice_cmp}
 use Rattle.std.specs.Ordering.{nat_cmp}
 use Rattle.std.specs.declared.cmp.Ordering.{Ordering}
@@ -13,6 +13,10 @@ Name = List ℕ
 -- a path is its names, from the root down; the root is the empty list. No more than 64 names are a premise where it counts, and no part of the type
 abbrev pub Path : Type 0
 Path = List Name
+
+-- the path has at most 64 names
+abbrev pub IsShort : Path → Type 0
+IsShort p = length p ≤ 64
 
 -- a capital letter of ASCII becomes small
 abbrev pub lowered_byte : ℕ → ℕ

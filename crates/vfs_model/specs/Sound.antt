@@ -1,7 +1,7 @@
 -- What is known agrees with the world, except where an event waits.
 use Rattle.std.specs.Prelude.{◌≡◌, ℕ, ◌+◌, ◌≤◌, Bool, false, List, [], ◌++◌, length, map, Option, Some, None}
 use Rattle.std.specs.List.{AllByRecursion as Each}
-use Rattle.vfs_model.specs.Paths.{Path, Case, place}
+use Rattle.vfs_model.specs.Paths.{Path, Case, place, IsShort}
 use Rattle.vfs_model.specs.World.{World, at, IsDir, status_of, IsWorld}
 use Rattle.vfs_model.specs.Snapshot.{IsTree}
 use Rattle.vfs_model.specs.Scan.{Agrees, scan}
@@ -9,7 +9,7 @@ use Rattle.vfs_model.specs.Pending.{is_hit}
 use Rattle.vfs_model.specs.Retained.{Pair, Retained, ancestors, IsInShape}
 use Rattle.vfs_model.specs.Scanning.{Scan, PartialSnapshot, Unread, NotThere, FileRead, DirRead, Look, names_seen, next_left, IsListed, IsPartialTree, IsShallow, IsFront, Tells, is_overtaken}
 use Rattle.vfs_model.specs.Fingerprint.{Input, Seen, fingerprint}
-use Rattle.vfs_model.specs.State.{KeptPrint, State, Call, CallRead, Answers, scan_of}
+use Rattle.vfs_model.specs.State.{KeptPrint, State, Call, CallEdit, CallRead, EditAnswer, Refuses, Does, Answers, scan_of}
 
 -- where what is known in the state may differ from the world: the mark is set, or an event at or above the place waits
 abbrev pub is_hit_in : State → Path → Bool
@@ -73,6 +73,19 @@ pub record IsInLimits (s : State) : Type 0 where
   pub room : s.pending.capacity ≤ 65536
   pub events : length s.pending.events ≤ s.pending.capacity
 
+-- the path of the scan is short; nothing is asked of a closed one
+abbrev pub IsShortSlot : Option Scan → Type 0
+IsShortSlot None = Unit {0}
+IsShortSlot (Some s) = IsShort s.path
+
+-- no path has more than 64 names: of the events that wait, of the scans in progress, of what is retained, of the known directories, and of the roots that are kept beside fingerprints
+pub record HasShortPaths (s : State) : Type 0 where
+  pub events : Each IsShort s.pending.events
+  pub scans : Each IsShortSlot s.scans
+  pub pairs : Each (λ (r : Pair). IsShort r.path) s.retained.pairs
+  pub dirs : Each IsShort s.retained.dirs
+  pub roots : Each (λ (k : KeptPrint). Each (λ (v : Seen). IsShort v.input.root) k.seen) s.kept
+
 -- the world and the lists are in shape, and all that is known is so in the world, but where an event waits or the mark is set
 pub record IsTrue (s : State) : Type 0 where
   pub world : IsWorld s.case s.world
@@ -82,9 +95,10 @@ pub record IsTrue (s : State) : Type 0 where
   pub scans : Each (IsTrueSlot s.case (is_hit_in s) s.world s.past) s.scans
   pub kept : Each (IsTrueKept s.case (is_hit_in s) s.world) s.kept
 
--- a state is sound: its numbers are within the limits, and what it knows is true
+-- a state is sound: its numbers are within the limits, its paths are short, and what it knows is true
 pub record IsSound (s : State) : Type 0 where
   pub limits : IsInLimits s
+  pub short : HasShortPaths s
   pub known : IsTrue s
   pub open known use *
 
@@ -106,10 +120,16 @@ abbrev pub IsLookOf : Case → Option Scan → Option Look → Type 0
 IsLookOf case None l = Unit {0}
 IsLookOf case (Some scan) l = IsLookBelow case scan.path (next_left scan.partial) l
 
--- what the tree answers to the look of a read lists names as a look does
-abbrev pub AreLooks : State → Call → Answers → Type 0
-AreLooks s (CallRead c) a = IsLookOf s.case (scan_of s c) a.look
-AreLooks s _ a = Unit {0}
+-- the events that the tree tells of an edit are short
+abbrev pub AreShortEvents : EditAnswer → Type 0
+AreShortEvents (Refuses r) = Unit {0}
+AreShortEvents (Does told) = Each IsShort told
+
+-- what the tree answers is in shape: the events of an edit are short, and the look of a read lists names as a look does
+abbrev pub AreShapedAnswers : State → Call → Answers → Type 0
+AreShapedAnswers s (CallEdit edit) a = AreShortEvents a.edit
+AreShapedAnswers s (CallRead c) a = IsLookOf s.case (scan_of s c) a.look
+AreShapedAnswers s _ a = Unit {0}
 
 -- in what was read the names are in order and few, none is listed at 64 names, and nothing behind the first location left is read yet
 pub record IsShapedScan (case : Case) (s : Scan) : Type 0 where
@@ -130,6 +150,7 @@ pub record IsShapedPrint (case : Case) (k : KeptPrint) : Type 0 where
 -- a state is in shape: all of soundness that does not speak of the world
 pub record IsShaped (s : State) : Type 0 where
   pub limits : IsInLimits s
+  pub short : HasShortPaths s
   pub shape : IsInShape s.case s.retained
   pub scans : Each (IsShapedSlot s.case) s.scans
   pub kept : Each (IsShapedPrint s.case) s.kept

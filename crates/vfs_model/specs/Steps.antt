@@ -1,8 +1,9 @@
 -- What a call of a machine owes: the reply of the model's step, and a machine that stands for the step's state.
-use Rattle.std.specs.Prelude.{◌≡◌, ℕ, Bool, true, false, Some, option_map}
+use Rattle.std.specs.Prelude.{◌≡◌, ℕ, Bool, true, false, List, Some, None, find, is_some, option_map}
 use Rattle.vfs_model.specs.Paths.{Path}
 use Rattle.vfs_model.specs.World.{World}
-use Rattle.vfs_model.specs.State.{State, Call, Reply, Refused, NothingPending, AlreadyOpen, NoScan, AllRead, Unfinished, Stale, Covered, Unknown, Outcome, Answers, step, told_step}
+use Rattle.vfs_model.specs.Fingerprint.{Input}
+use Rattle.vfs_model.specs.State.{State, KeptPrint, Call, Reply, Refused, NothingPending, AlreadyOpen, NoScan, AllRead, Unfinished, Stale, Covered, Part, Unknown, Outcome, Answers, is_for_inputs, step, told_step}
 use Rattle.vfs_model.specs.History.{is_no_memory, changes_of, with_changes}
 use Rattle.vfs_model.specs.Stands.{Parts, Stands}
 
@@ -39,8 +40,13 @@ is_before_memory (Unfinished n) = true
 is_before_memory (Stale n) = true
 is_before_memory Covered = true
 is_before_memory (Unknown n) = true
+is_before_memory (Part None) = true
 is_before_memory _ = false
 
 -- for every state that the machine stands for, memory was wanting only where the reply that is due needs it
 abbrev pub IsMemoryLast : {V : Type 0} → (V → Path → ℕ) → (V → ℕ) → Parts V → (State → Outcome) → Reply → Type 0
 IsMemoryLast at count m due r = (s : State) → Stands at count m s → is_no_memory r ≡ true → is_before_memory (due s).reply ≡ false
+
+-- a fingerprint of this very list of inputs is kept, and so the reply to a question for it needs no memory
+abbrev pub is_kept : State → List Input → Bool
+is_kept s inputs = is_some (find (λ (k : KeptPrint). is_for_inputs inputs k.seen) s.kept)

@@ -107,6 +107,10 @@ path_from_segments segments h e =
     let all = names_from_segments 0 segments (omega arith) h e in
     record { short = omega (arith, all.0); names = all.1 }
 
+-- what follows the first slash of a text is the text of a path where nothing is said against it
+pub path_from_rest : (text rest : List ℕ) → text ≡ 47 ∷ rest → has_path_bytes text ≡ true → segments_refusal 0 (slice_split is_slash rest) ≡ None → IsPath (slice_split is_slash rest)
+path_from_rest text rest e bytes unsaid = path_from_segments _ (parts_spelled rest (rest_bytes text rest e bytes)) unsaid
+
 -- ---- the walk along the segments
 
 -- how much is left to cut
@@ -114,8 +118,7 @@ abbrev pub left_length : Option (List ℕ) → ℕ
 left_length None = 0
 left_length (Some rest) = 1 + length rest
 
--- the names so far and the segments that are left are all segments of the text
+-- the names so far and the names that are left are all names of the text
 pub record IsBetween (names left all : List (List ℕ)) : Type 0 where
   pub both : names ++ left ≡ all
-  pub refusal : segments_refusal (length names) left ≡ segments_refusal 0 all
-  pub spelled : Each IsSpelled left
+  pub each : Each IsName left

@@ -35,39 +35,24 @@ impl Name {
     /// The name with these bytes.
     ///
     /// Refused, by the first that holds: `BadByte` (a `/` included), `EmptyName`, `DotName`,
-    /// `LongName`, `NoMemory`.
+    /// `LongName`; and `NoMemory`, which comes only where the bytes are those of a name.
     pub fn from_bytes(alloc: Global, text: &[u8]) -> Result<Name, PathError>
         ensures name { IfOk result (λ name. (name ≡ text.now) × (name_of text.now ≡ Ok text.now)) }
         ensures refused { IfErr result (λ e. (e ≡ NoMemoryError) ⊎ (name_of text.now ≡ Err e)) }
+        ensures memory { (result ≡ Err PathError.NoMemory) → name_of text.now ≡ Ok text.now }
     {
         if !(stand_in_name(text) && is_utf8(text)) {
             return Err(PathError::BadByte);
         }
-        Name::of_spelling(alloc, text)
-    }
-
-    /// The name with these bytes, which may all stand in a name.
-    pub(crate) fn of_spelling(alloc: Global, text: &[u8]) -> Result<Name, PathError>
-        requires bytes { list_all stands_in_name text.now ≡ true }
-        requires utf8 { is_utf8 text.now ≡ true }
-        ensures name { IfOk result (λ name. (name ≡ text.now) × (first_refusal (spelling_refusals text.now) ≡ None)) }
-        ensures refused { IfErr result (λ e. (e ≡ NoMemoryError) ⊎ (first_refusal (spelling_refusals text.now) ≡ Some e)) }
-    {
-        if text.is_empty() {
-            return Err(PathError::EmptyName);
-        }
-        if is_dots(text) {
-            return Err(PathError::DotName);
-        }
-        if text.len() > 255 {
-            return Err(PathError::LongName);
+        if let Some(refusal) = spelling_refusal(text) {
+            return Err(refusal);
         }
         let name = Name::with_text(alloc, text)?;
         Ok(name)
     }
 
     /// The name with these bytes, which are those of a name.
-    fn with_text(alloc: Global, text: &[u8]) -> Result<Name, NoMemory>
+    pub(crate) fn with_text(alloc: Global, text: &[u8]) -> Result<Name, NoMemory>
         requires { IsName text.now }
         ensures { IfOk result (λ name. name ≡ text.now) }
     {
@@ -106,8 +91,24 @@ fn stand_in_name(text: &[u8]) -> bool
     text.iter().all(|b| stands_in_name(*b))
 }
 
+/// What a length or a spelling says against a name.
+pub(crate) fn spelling_refusal(text: &[u8]) -> Option<PathError>
+    ensures { result ≡ first_refusal (spelling_refusals text.now) }
+{
+    if text.is_empty() {
+        return Some(PathError::EmptyName);
+    }
+    if is_dots(text) {
+        return Some(PathError::DotName);
+    }
+    if text.len() > 255 {
+        return Some(PathError::LongName);
+    }
+    None
+}
+
 /// Whether the bytes are `.` or `..`.
-pub(crate) fn is_dots(text: &[u8]) -> bool
+fn is_dots(text: &[u8]) -> bool
     ensures { result ≡ is_dots text.now }
 {
     text == b".".as_slice() || text == b"..".as_slice()

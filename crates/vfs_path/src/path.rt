@@ -5,11 +5,11 @@ ghost use Rattle.vfs_model.specs.Paths.{place, is_same_name, is_at_or_above, is_
 ghost use Rattle.vfs_model.specs.Retained.{place_order};
 ghost use Rattle.vfs_path.specs.declared.error.PathError.TheVariants.{NoMemory as NoMemoryError, TooDeep as TooDeepError};
 ghost use Rattle.std.specs.List.{common_prefix_len};
-ghost use Rattle.vfs_path.specs.Texts.{IsPath, path_of, path_text};
+ghost use Rattle.vfs_path.specs.Texts.{IsPath, segments, path_of, path_text};
 
 use crate::error::PathError;
 use crate::name::{Name, Names};
-use crate::text::{after_slash, has_path_bytes, names_between, write_slashed};
+use crate::text::{after_slash, has_path_bytes, names_between, segments_refusal, write_slashed};
 use case_order::{Case, NoMemory, Share, Shared, order, same, share_all};
 use std::alloc::Global;
 use std::cmp::Ordering;
@@ -47,10 +47,12 @@ impl Path {
     /// Refused, by the first that holds: `NotAbsolute` where the text does not begin with `/`;
     /// `BadByte` where it has a byte 0 or LF or is not UTF-8; by the first of the segments behind
     /// the first `/` that is at fault, `TooDeep` for the 65th whatever it holds, `EmptyName`,
-    /// `DotName`, `LongName`; and `NoMemory`. The text `/` has no segments.
+    /// `DotName`, `LongName`; and `NoMemory`, which comes only where the text is that of a path.
+    /// The text `/` has no segments.
     pub fn parse(alloc: Global, text: &[u8]) -> Result<Path, PathError>
         ensures path { IfOk result (λ p. path_of text.now ≡ Ok p) }
         ensures refused { IfErr result (λ e. (e ≡ NoMemoryError) ⊎ (path_of text.now ≡ Err e)) }
+        ensures memory { (result ≡ Err PathError.NoMemory) → path_of text.now ≡ Ok (segments text.now) }
     {
         let Some(rest) = after_slash(text) else {
             return Err(PathError::NotAbsolute);
@@ -60,6 +62,9 @@ impl Path {
         }
         if rest.is_empty() {
             return Ok(Path::root());
+        }
+        if let Some(refusal) = segments_refusal(0, rest) {
+            return Err(refusal);
         }
         let names = names_between(alloc, rest)?;
         let path = Path::with_names(alloc, names)?;

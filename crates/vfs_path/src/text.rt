@@ -5,10 +5,10 @@ ghost use Rattle.std.specs.List.{slice_split, list_all};
 ghost use Rattle.std.specs.Option.{option_copied};
 ghost use Rattle.std.specs.Str.{is_utf8};
 ghost use Rattle.vfs_path.specs.declared.error.PathError.TheVariants.{NoMemory as NoMemoryError};
-ghost use Rattle.vfs_path.specs.Texts.{stands_in_path, has_path_bytes, stands_in_name, is_slash, is_absolute, parts_after, segment_refusal, segments_refusal, slashed};
+ghost use Rattle.vfs_path.specs.Texts.{stands_in_path, has_path_bytes, stands_in_name, is_slash, is_absolute, parts_after, segment_refusal, segments_refusal, slashed, IsPath};
 
 use crate::error::PathError;
-use crate::name::{Name, is_utf8};
+use crate::name::{Name, is_utf8, spelling_refusal};
 use case_order::NoMemory;
 use std::alloc::Global;
 
@@ -55,33 +55,43 @@ fn cut(text: &[u8]) -> (&[u8], Option<&[u8]>)
     }
 }
 
-/// The name that stands between two slashes, where so many names precede it.
-fn segment_name(alloc: Global, before: usize, segment: &[u8]) -> Result<Name, PathError>
-    requires bytes { list_all stands_in_name segment.now ≡ true }
-    requires utf8 { is_utf8 segment.now ≡ true }
-    ensures name { IfOk result (λ name. (name ≡ segment.now) × (segment_refusal before segment.now ≡ None)) }
-    ensures refused { IfErr result (λ e. (e ≡ NoMemoryError) ⊎ (segment_refusal before segment.now ≡ Some e)) }
+/// What is said against a segment that so many precede.
+fn segment_refusal(before: usize, segment: &[u8]) -> Option<PathError>
+    ensures refusal { result ≡ segment_refusal before segment.now }
+    ensures room { (result ≡ None) → before < 64 }
 {
     if before >= 64 {
-        return Err(PathError::TooDeep);
+        return Some(PathError::TooDeep);
     }
-    Name::of_spelling(alloc, segment)
+    spelling_refusal(segment)
+}
+
+/// What is said against the first of the segments that is at fault, where so many precede them.
+///
+/// The segments stand between the slashes of the text. No memory is taken.
+pub(crate) fn segments_refusal(before: usize, text: &[u8]) -> Option<PathError>
+    ensures { result ≡ segments_refusal before (slice_split is_slash text.now) }
+{
+    let (segment, after) = cut(text);
+    if let Some(refusal) = segment_refusal(before, segment) {
+        return Some(refusal);
+    }
+    match after {
+        None => None,
+        Some(rest) => segments_refusal(before + 1, rest),
+    }
 }
 
 /// The names between the slashes of what follows the first slash of a path's text.
-///
-/// The first of them at fault decides the refusal.
-pub(crate) fn names_between(alloc: Global, text: &[u8]) -> Result<Vec<Name>, PathError>
-    requires { has_path_bytes text.now ≡ true }
-    ensures names { IfOk result (λ names. (names.items ≡ slice_split is_slash text.now) × (segments_refusal 0 (slice_split is_slash text.now) ≡ None)) }
-    ensures refused { IfErr result (λ e. (e ≡ NoMemoryError) ⊎ (segments_refusal 0 (slice_split is_slash text.now) ≡ Some e)) }
+pub(crate) fn names_between(alloc: Global, text: &[u8]) -> Result<Vec<Name>, NoMemory>
+    requires { IsPath (slice_split is_slash text.now) }
+    ensures { IfOk result (λ names. names.items ≡ slice_split is_slash text.now) }
 {
     let mut names = Vec::new(alloc);
     let mut left = Some(text);
     while let Some(rest) = left {
         let (segment, after) = cut(rest);
-        let name = segment_name(alloc, names.len(), segment)?;
-        names.push(name)?;
+        names.push(Name::with_text(alloc, segment)?)?;
         left = after;
     }
     Ok(names)

@@ -1,8 +1,7 @@
 pub mod TakeLemmas
 pub mod WordLemmas
-pub mod RunLemmas
+pub mod ToldLemmas
 pub mod GenLemmas
 pub mod CountLemmas
-mod CaseLemmas
 mod FolderLemmas
 mod MachineLemmas

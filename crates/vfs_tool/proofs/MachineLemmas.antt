@@ -1,30 +1,35 @@
--- The machine with which the command lines of a script begin, over a tree that may keep its content to itself.
-use Rattle.std.proofs.Common.{◌≡◌, ℕ, ◌<◌, ◌^◌, List, [], ◌++◌, length, Some, refl, sym, ap, subst, ◌∙◌, arith}
+-- The machine with which the command lines of a script begin, over a tree that may keep its content to itself, and what its lines come to over that tree.
+use Rattle.std.proofs.Common.{◌≡◌, ℕ, ◌+◌, ◌*◌, ◌<◌, ◌^◌, true, List, [], ◌∷◌, ◌++◌, length, Option, Some, None, refl, sym, ap, subst, ◌∙◌, arith, append-nil, inr}
 use Rattle.std.specs.Prelude.{is_some}
 use Rattle.vfs_model.specs.declared.Case.{Case}
 use Rattle.vfs_model.specs.Paths.{Path}
+use Rattle.vfs_model.specs.Pending.{version}
 use Rattle.vfs_model.specs.World.{World, IsSameBelow}
 use Rattle.vfs_model.specs.State.{State, TreeAnswer}
 use Rattle.vfs_model.specs.Stands.{StandsFor, Parts, Stands}
-use Rattle.vfs_model.specs.History.{opening}
-use Rattle.world_model.specs.Told.{TreeTold, TellsWhole}
-use Rattle.vfs_model.specs.Pending.{version}
+use Rattle.vfs_model.specs.History.{Operation, IsAnswered, AreAnswered, opening, after, empty_world}
+use Rattle.vfs_laws.proofs.NameLemmas.{some-is}
+use Rattle.vfs_laws.proofs.SameLemmas.{same-refl}
+use Rattle.vfs_laws.proofs.HistoryLemmas.{each_at-weaker}
+use Rattle.vfs_laws.proofs.ChangesLemmas.{after-case}
+use Rattle.world_model.specs.Told.{TreeTold}
 use Rattle.version_hierarchy.specs.Flat.{Invalidated}
 use Rattle.snapshot_hierarchy.specs.Held.{Held, nothing}
 use Rattle.snapshot_hierarchy.specs.Flat.{holding}
 use Rattle.vfs_machine.specs.Whole.{opening_parts, told_of}
 use Rattle.vfs_machine.proofs.OpenLemmas.{opening-over}
 use Rattle.vfs_io.specs.Told.{SinkTold}
+use Rattle.script_text.specs.declared.script.Line.{Line}
+use Rattle.script_report.specs.Runs.{IsMade, AreMade, asked, operations_of}
 use Rattle.script_runs.specs.declared.output.Break.{Break}
-use Rattle.script_runs.specs.Lines.{Printed}
-use Rattle.script_runs.specs.Printing.{IsReady, RunsAll}
-use Rattle.script_runs.specs.Output.{BreaksOff}
-use Rattle.script_runs.specs.Course.{Course}
-use Rattle.script_runs.specs.Over.{Meets, RunsOver, BreaksOver, IsOpeningOf, TellsAll}
-use Rattle.vfs_tool.proofs.FolderLemmas.{some-world}
+use Rattle.script_runs.specs.Making.{Answered, Makes}
+use Rattle.script_runs.specs.Opening.{MayHold}
+use Rattle.script_runs.specs.Printing.{HasRoom, spent}
+use Rattle.script_runs.specs.Running.{RunsLines, BreaksLines}
+use Rattle.vfs_tool.specs.Scripts.{RunsCommands, BreaksCommand}
 
 -- a machine as it is made: of the tree that told this, with a queue for so many events, nothing retained and nothing invalidated
-pub record IsMade {V : Type 0} (at : V → Path → ℕ) (count : V → ℕ) (told : TreeTold) (queue : ℕ) (m : Parts V) : Type 0 where
+pub record IsFirst {V : Type 0} (at : V → Path → ℕ) (count : V → ℕ) (told : TreeTold) (queue : ℕ) (m : Parts V) : Type 0 where
   pub held : Held
   pub versions : V
   pub is : m ≡ opening_parts told queue held versions
@@ -41,9 +46,9 @@ abbrev pub count_flat : Invalidated → ℕ
 count_flat v = length v.places
 
 -- a machine that is made with empty flat forms under the tree's case
-pub flat-made : (told : TreeTold) (queue : ℕ) (m : Parts Invalidated) (held : Held) (v : Invalidated) (case : Case) → m ≡ opening_parts told queue held v → case ≡ told.case → held ≡ holding case nothing → v ≡ record { case = case; places = [] }
-    → IsMade at_flat count_flat told queue m
-flat-made told queue m held v case is under none past = record {
+pub flat-first : (told : TreeTold) (queue : ℕ) (m : Parts Invalidated) (held : Held) (v : Invalidated) (case : Case) → m ≡ opening_parts told queue held v → case ≡ told.case → held ≡ holding case nothing → v ≡ record { case = case; places = [] }
+    → IsFirst at_flat count_flat told queue m
+flat-first told queue m held v case is under none past = record {
   held = held;
   versions = v;
   is = is;
@@ -53,61 +58,90 @@ flat-made told queue m held v case is under none past = record {
 }
 
 -- it stands for the opening state of each world that the tree may hold
-pub made-stands : {V : Type 0} (at : V → Path → ℕ) (count : V → ℕ) (told : TreeTold) (queue : ℕ) (m : Parts V) → IsMade at count told queue m → (s : State) → IsOpeningOf queue told s → Stands at count m s
-made-stands {V} at count told queue m made s h =
-    let same : ((w : World) → told.content ≡ Some w → IsSameBelow made.held.case s.world [] w []) = λ w e. subst (λ (c : Case). IsSameBelow c s.world [] w []) made.case (h.world w e) in
-    let at_first = opening-over at count told queue made.held made.versions s.world made.case same made.none made.past in
-    subst (λ (t : State). Stands at count m t) (sym h.is) (subst (λ (p : Parts V). Stands at count p (opening told.case queue s.world)) (sym made.is) at_first)
+first-stands : {V : Type 0} (at : V → Path → ℕ) (count : V → ℕ) (told : TreeTold) (queue : ℕ) (m : Parts V) → IsFirst at count told queue m → (world : World) → MayHold told world → Stands at count m (opening told.case queue world)
+first-stands {V} at count told queue m first world holds =
+    let same : ((w : World) → told.content ≡ Some w → IsSameBelow first.held.case world [] w []) = λ w e. subst (λ (c : Case). IsSameBelow c world [] w []) first.case (holds w e) in
+    subst (λ (p : Parts V). Stands at count p (opening told.case queue world)) (sym first.is)
+    (opening-over at count told queue first.held first.versions world first.case same first.none first.past)
 
 -- it tells what the tree told
-pub made-tells : {V : Type 0} (at : V → Path → ℕ) (count : V → ℕ) (told : TreeTold) (queue : ℕ) (m : Parts V) → IsMade at count told queue m → told_of m ≡ told
-made-tells {V} at count told queue m made = ap (λ (p : Parts V). told_of p) made.is ∙ ap (λ (c : Case). record told { case = c }) (sym made.case)
+first-tells : {V : Type 0} (at : V → Path → ℕ) (count : V → ℕ) (told : TreeTold) (queue : ℕ) (m : Parts V) → IsFirst at count told queue m → told_of m ≡ told
+first-tells {V} at count told queue m first = ap (λ (p : Parts V). told_of p) first.is ∙ ap (λ (c : Case). record told { case = c }) (sym first.case)
 
-pub made-all : {V : Type 0} (at : V → Path → ℕ) (count : V → ℕ) (told : TreeTold) (queue : ℕ) (m : Parts V) (most : ℕ) → IsMade at count told queue m → TellsWhole most told → TellsAll most m
-made-all at count told queue m most made whole = (ap (λ (t : TreeTold). is_some t.content) (made-tells at count told queue m made) ∙ whole.0, whole.1)
+-- and it has room for so many lines
+pub first-room : {V : Type 0} (at : V → Path → ℕ) (count : V → ℕ) (told : TreeTold) (queue : ℕ) (m : Parts V) (lines : ℕ) → IsFirst at count told queue m → lines < 2 ^ 61 → HasRoom count m lines
+first-room {V} at count told queue m lines first few =
+    let none : count first.versions ≡ 0 = first.past.number in
+    let empty : spent count (opening_parts told queue first.held first.versions) + 2 * lines < 2 ^ 62 = omega (arith, none, few) in
+    subst (λ (p : Parts V). spent count p + 2 * lines < 2 ^ 62) (sym first.is) empty
 
--- and it is ready for so many lines
-pub made-ready : {V : Type 0} (at : V → Path → ℕ) (count : V → ℕ) (told : TreeTold) (queue : ℕ) (m : Parts V) (lines : ℕ) → IsMade at count told queue m → lines < 2 ^ 61 → IsReady at count m lines
-made-ready {V} at count told queue m lines made few =
-    let some = some-world told.case told in
-    let state = opening told.case queue some.0 in
-    let empty = made.past.number in
-    let at_first : IsReady at count (opening_parts told queue made.held made.versions) lines = record {
-      state = state;
-      stands = subst (λ (p : Parts V). Stands at count p state) made.is (made-stands at count told queue m made state (record { is = refl; world = some.1 }));
-      room = omega (arith, empty, few);
-    } in
-    subst (λ (p : Parts V). IsReady at count p lines) (sym made.is) at_first
+-- there is a world that the tree may hold
+some-world : (told : TreeTold) → (w : World) × MayHold told w
+some-world told = by told.content refl
+  where
+    by : (o : Option World) → told.content ≡ o → (w : World) × MayHold told w
+    by (Some w) is = (w, λ u e. subst (λ (x : World). IsSameBelow told.case w [] x []) (some-is w u (sym is ∙ e)) (same-refl told.case w))
+    by None is = (empty_world, λ u e. absurd (clash u (sym is ∙ e)))
+      where
+        clash : (u : World) → None ≡ Some u → ⊥
+        clash u e = cc
 
--- ---- what was run and put, by what the tree told and in place of what the machine stands for
+-- ---- lines that were run on it
 
-pub runs-made : {X : Type 0} (print : State → X → Printed State) (before now first : State → Type 0) (lines : List X) (a b : SinkTold) → ((s : State) → first s → before s) → RunsAll print before now lines a b → RunsAll print first (λ _. Unit {0}) lines a b
-runs-made print before now first lines a b stands run = λ s h. ((run s (stands s h)).0, tt)
+-- what was made answered each call
+made-answered : (s : State) (h : List Operation) → AreMade s h → AreAnswered s h
+made-answered = each_at-weaker IsMade IsAnswered (λ s o made. inr made.reply)
 
-pub breaks-made : {X : Type 0} (print : State → X → Printed State) (before first : State → Type 0) (lines : List X) (a b : SinkTold) (e : Break) → ((s : State) → first s → before s) → BreaksOff print before lines a b e → BreaksOff print first lines a b e
-breaks-made print before first lines a b e stands broke = λ s h. broke s (stands s h)
+-- no line changes the case
+made-case : {V : Type 0} (at : V → Path → ℕ) (count : V → ℕ) (told : TreeTold) (queue : ℕ) (m last : Parts V) (h : List Operation) (over : List TreeAnswer) → IsFirst at count told queue m → Makes at count m last h over → (told_of last).case ≡ told.case
+made-case at count told queue m last h over first makes =
+    let some = some-world told in
+    let s = opening told.case queue some.0 in
+    let made = makes.made s (first-stands at count told queue m first some.0 some.1) in
+    sym made.1.case ∙ after-case s h (made-answered s h made.0)
 
-met-made : (before first : State → Type 0) (told was : TreeTold) (answers : List TreeAnswer) (c : Course) → ((s : State) → first s → before s) → told ≡ was → Meets first was answers c → Meets before told answers c
-met-made before first told was answers c stands same met = record {
-  at_state = stands c.state met.at_state;
-  coming = met.coming;
-  fitting = met.fitting;
-  due = λ tells. met.due (ap (λ (t : TreeTold). is_some t.content) (sym same) ∙ tells);
-}
+made-answers : {V : Type 0} (at : V → Path → ℕ) (count : V → ℕ) (told : TreeTold) (queue : ℕ) (m last : Parts V) (h : List Operation) (over : List TreeAnswer) → IsFirst at count told queue m → Makes at count m last h over → Answered told (told_of last) (asked h ++ over)
+made-answers at count told queue m last h over first makes = subst (λ (t : TreeTold). Answered t (told_of last) (asked h ++ over)) (first-tells at count told queue m first) makes.answered
 
-pub runs-over-made : {X : Type 0} (print : Course → X → Printed Course) (before now first : State → Type 0) (told was new is : TreeTold) (lines : List X) (a b : SinkTold) → ((s : State) → first s → before s) → ((s : State) → now s → s.case ≡ new.case) → told ≡ was → is ≡ new → RunsOver print before now told new lines a b
-    → RunsOver print first (λ s. s.case ≡ is.case) was is lines a b
-runs-over-made print before now first told was new is lines a b stands cased same end h =
-    let run = subst (λ (t : TreeTold). RunsOver print before now told t lines a b) (sym end) h in
-    let run = subst (λ (t : TreeTold). RunsOver print before now t is lines a b) same run in
+-- the content is told where the tree told it
+made-tells : {V : Type 0} (at : V → Path → ℕ) (count : V → ℕ) (told : TreeTold) (queue : ℕ) (m : Parts V) → IsFirst at count told queue m → is_some told.content ≡ true → is_some m.content ≡ true
+made-tells at count told queue m first tells = ap (λ (t : TreeTold). is_some t.content) (first-tells at count told queue m first) ∙ tells
+
+pub lines-run : {V : Type 0} (at : V → Path → ℕ) (count : V → ℕ) (told : TreeTold) (queue : ℕ) (m last : Parts V) (lines : List Line) (a b : SinkTold) → IsFirst at count told queue m → RunsLines at count m last lines a b → RunsCommands queue told (told_of last) lines a b
+lines-run at count told queue m last lines a b first run =
+    let h = operations_of run.runs in
+    let stands = first-stands at count told queue m first in
     record {
-      asked = run.asked;
-      answered = run.answered;
-      runs = λ more c met.
-          let done = run.runs more c (met-made before first was was (run.asked ++ more) c stands refl met) in
-          (done.0, record { at_state = cased _ done.1.at_state ∙ sym (ap (λ (t : TreeTold). t.case) end); coming = done.1.coming; fitting = done.1.fitting; due = done.1.due });
+      runs = run.runs;
+      answered = subst (Answered told (told_of last)) (append-nil (asked h)) (made-answers at count told queue m last h [] first run.makes);
+      case = made-case at count told queue m last h [] first run.makes;
+      run = λ world holds. record {
+        follows = run.follows (opening told.case queue world) (stands world holds);
+        made = (run.makes.made (opening told.case queue world) (stands world holds)).0;
+      };
+      due = λ tells world holds. run.makes.due (made-tells at count told queue m first tells) (opening told.case queue world) (stands world holds);
+      puts = run.puts;
     }
 
-pub breaks-over-made : {X : Type 0} (print : Course → X → Printed Course) (before first : State → Type 0) (told was : TreeTold) (lines : List X) (a b : SinkTold) (e : Break) → ((s : State) → first s → before s) → told ≡ was → BreaksOver print before told lines a b e
-    → BreaksOver print first was lines a b e
-breaks-over-made print before first told was lines a b e stands same broke = (broke.0, λ more c met. broke.1 more c (met-made before first told was (broke.0 ++ more) c stands same met))
+pub lines-broke : {V : Type 0} (at : V → Path → ℕ) (count : V → ℕ) (told : TreeTold) (queue : ℕ) (m last : Parts V) (lines : List Line) (a b : SinkTold) (e : Break) → IsFirst at count told queue m → BreaksLines at count m last lines a b e → BreaksCommand queue told (told_of last) lines a b e
+lines-broke at count told queue m last lines a b e first broke =
+    let h = operations_of broke.runs ++ broke.operations in
+    let stands = first-stands at count told queue m first in
+    record {
+      done = broke.done;
+      line = broke.line;
+      left = broke.left;
+      parts = broke.parts;
+      runs = broke.runs;
+      operations = broke.operations;
+      over = broke.over;
+      uncounted = broke.uncounted;
+      answered = made-answers at count told queue m last h broke.over first broke.makes;
+      case = made-case at count told queue m last h broke.over first broke.makes;
+      stage = broke.stage;
+      follows = broke.follows;
+      before = λ world holds. broke.before (opening told.case queue world) (stands world holds);
+      made = λ world holds. (broke.makes.made (opening told.case queue world) (stands world holds)).0;
+      due = λ tells world holds. broke.makes.due (made-tells at count told queue m first tells) (opening told.case queue world) (stands world holds);
+      puts = broke.puts;
+    }

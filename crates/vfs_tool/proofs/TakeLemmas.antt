@@ -1,20 +1,20 @@
 -- One take after another.
-use Rattle.std.proofs.Common.{◌≡◌, ℕ, ◌+◌, ◌≤◌, List, [], ◌∷◌, ◌++◌, length, Option, Result, Ok, Err, refl, sym, subst, arith, length-append}
+use Rattle.std.proofs.Common.{ℕ, ◌-◌, ◌≤◌, List, [], ◌∷◌, ◌++◌, length, Option, Result, Ok, Err, sym, subst, arith, length-append}
 use Rattle.std.specs.List.{AllByRecursion as Each}
 use Rattle.std.proofs.KnownBytes.{Consumes-trans}
 use Rattle.std.specs.Io.KnownBytes.{Consumes}
-use Rattle.script_runs.proofs.PrintLemmas.{Rose-since}
+use Rattle.script_runs.proofs.RunLemmas.{Rose-since}
 use Rattle.vfs_tool.specs.declared.input.Stop.{Stop}
 use Rattle.vfs_tool.specs.declared.input.Stop.TheVariants.{Fault, TooLong, NoMemory}
 use Rattle.vfs_io.specs.Told.{SourceTold, Grows, IsListed}
 use Rattle.vfs_io.proofs.GrowLemmas.{Grows-nil, Grows-trans}
 use Rattle.vfs_tool.specs.Input.{AsksAtMost, Stops, limit}
 
--- what stops a take, of a room within the limit, stops all
-pub stops_on : (e : Stop) (a b c : SourceTold) (text : List ℕ) (room : ℕ) → Consumes a.left b.left text → length text + room ≤ limit → a.faults ≤ b.faults → (e ≡ TooLong → ⊥) → Stops b c room e → Stops a c limit e
-stops_on Fault a b c text room took fits later short h = (Rose-since a.faults b.faults c.faults later h.0, (text ++ h.1.0, Consumes-trans a.left b.left c.left text h.1.0 took h.1.1, let l = h.1.2 in omega (arith, length-append text h.1.0)))
-stops_on TooLong a b c text room took fits later short h = absurd (short refl)
-stops_on NoMemory a b c text room took fits later short h = (text ++ h.0, Consumes-trans a.left b.left c.left text h.0 took h.1, let l = h.1 in let k = h.2 in omega (arith, length-append text h.0))
+-- what stops a take, of what is left of the limit, stops all
+pub stops_on : (e : Stop) (a b c : SourceTold) (text : List ℕ) → Consumes a.left b.left text → length text ≤ limit → a.faults ≤ b.faults → Stops b c (limit - length text) e → Stops a c limit e
+stops_on Fault a b c text took fits later h = (Rose-since a.faults b.faults c.faults later h.0, (text ++ h.1.0, Consumes-trans a.left b.left c.left text h.1.0 took h.1.1, let l = h.1.2 in omega (arith, length-append text h.1.0)))
+stops_on TooLong a b c text took fits later h = (text ++ h.0, Consumes-trans a.left b.left c.left text h.0 took h.1, let l = h.2 in omega (arith, length-append text h.0))
+stops_on NoMemory a b c text took fits later h = (text ++ h.0, Consumes-trans a.left b.left c.left text h.0 took h.1, let l = h.2 in omega (arith, length-append text h.0))
 
 -- ---- the buffers of the takes
 

@@ -41,8 +41,8 @@ pub record Takes (old new : Option (List ℕ)) (text now : List ℕ) (n most : �
   pub within : n ≤ most
   pub end : n ≡ 0 → IsAtEnd new
 
--- why a run stopped as it took bytes, of which so many were allowed
+-- why a run stopped as it took bytes, of which so many were allowed; too long it is exactly where it took one more
 abbrev pub Stops : SourceTold → SourceTold → ℕ → Stop → Type 0
 Stops old new most Fault = Rose old.faults new.faults × TakesSome old.left new.left (λ n. n ≤ most)
 Stops old new most TooLong = TakesSome old.left new.left (λ n. n ≡ most + 1)
-Stops old new most NoMemory = TakesSome old.left new.left (λ n. n ≤ most + 1)
+Stops old new most NoMemory = TakesSome old.left new.left (λ n. n ≤ most)

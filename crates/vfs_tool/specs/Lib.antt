@@ -4,3 +4,4 @@ pub mod Run
 pub mod Forms
 pub mod Gen
 pub mod Folder
+pub mod Scripts

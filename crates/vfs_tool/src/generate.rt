@@ -1,11 +1,11 @@
 //! `gen N`: a script of N directories is run in memory, and one line sums up what it prints.
 
-ghost use Rattle.std.specs.Prelude.{◌≡◌, ◌≤◌, ◌<◌, ◌^◌, length, IfOk};
-ghost use Rattle.std.specs.List.{AllByRecursion as Each};
+ghost use Rattle.std.specs.Prelude.{◌≡◌, ◌≤◌, ◌<◌, ◌^◌, ℕ, List, length, IfOk};
+ghost use Rattle.std.specs.List.{concat, AllByRecursion as Each};
 ghost use Rattle.script_text.specs.declared.cause.BadLine.{BadLine};
 ghost use Rattle.script_runs.specs.Printing.{CanRun, IsQueue, IsWorkers};
-ghost use Rattle.script_runs.specs.Report.{report_of};
-ghost use Rattle.vfs_tool.specs.Gen.{summary, GenEnds};
+ghost use Rattle.script_report.specs.Reports.{IsReport};
+ghost use Rattle.vfs_tool.specs.Gen.{IsSummary, GenEnds};
 
 use crate::run::run_over;
 use crate::status::Status;
@@ -25,7 +25,8 @@ fn replayed<H: Threads + Sync>(rt: &H, alloc: Global, script: &Script) -> Result
     requires workers { IsWorkers script.now.settings.workers }
     requires lines { Each CanRun script.now.lines }
     requires few { length script.now.lines < 2 ^ 61 }
-    ensures { IfOk result (λ sink. sink.bytes ≡ report_of script.now) }
+    ensures { IfOk result (λ sink. (texts : List (List ℕ)) × IsReport script.now texts
+        × (sink.bytes ≡ concat texts)) }
 {
     let mut sink = MemSink::new(alloc, Vec::new(alloc));
     let empty = MemTree::new(alloc, script.settings.case);
@@ -44,7 +45,7 @@ fn generated_summary<H: Threads + Sync>(
     directories: u64,
 ) -> Result<Vec<u8>, NoMemory>
     requires { directories ≤ 1000 }
-    ensures { IfOk result (λ line. line.items ≡ summary directories) }
+    ensures { IfOk result (λ line. IsSummary directories line.items) }
 {
     let script = generated_script(alloc, directories)?;
     let report = replayed(rt, alloc, &script)?;

@@ -1,23 +1,20 @@
 //! The program as a call.
 
-ghost use Rattle.std.specs.Prelude.{◌≡◌, ◌↔◌, ◌⊎◌, ◌+◌, ◌-◌, ◌^◌, ◌<◌, ◌≤◌, ℕ, List, Some, length, IfErr, OnOk};
+ghost use Rattle.std.specs.Prelude.{◌≡◌, ◌↔◌, ◌⊎◌, ◌+◌, ◌^◌, ◌<◌, ◌≤◌, ℕ, List, Some, length, IfErr, OnOk};
 ghost use Rattle.std.specs.List.{AllByRecursion as Each};
 ghost use Rattle.script_text.specs.declared.cause.BadLine.{BadLine};
 ghost use Rattle.script_text.specs.declared.script.TextKind.TheVariants.{Replay};
 ghost use Rattle.script_reader.specs.Faults.{FirstBad};
 ghost use Rattle.vfs_model.specs.Faults.{Rose};
 ghost use Rattle.vfs_tool.specs.Input.{TakesNothing, TakesAll, TakesSome, AsksAtMost, limit};
-ghost use Rattle.script_runs.specs.Output.{PutsEach, PutsNothing, Breaks, BreaksOff};
-ghost use Rattle.script_runs.specs.Printing.{CanRun, IsQueue, IsWorkers, RunsAll};
-ghost use Rattle.script_runs.specs.Report.{printed, lines_of};
-ghost use Rattle.script_runs.specs.CourseReport.{printed_over};
-ghost use Rattle.script_runs.specs.Over.{RunsOver, BreaksOver, IsOpeningOf};
+ghost use Rattle.script_runs.specs.Output.{PutsNothing};
+ghost use Rattle.script_runs.specs.Printing.{CanRun, IsQueue, IsWorkers};
 ghost use Rattle.vfs_tool.specs.declared.forms.Form.{Form};
 ghost use Rattle.vfs_tool.specs.Forms.{IsReplay, IsFolder, IsGen, IsForm};
 ghost use Rattle.vfs_tool.specs.Gen.{GenEnds};
-ghost use Rattle.vfs_tool.specs.Run.{PutsReport, PutsPrefix, PutsLines, Reports, ReportsPrefix, ReportsLines, Answers, IsUnrun};
-ghost use Rattle.world_model.specs.Told.{TellsWhole};
-ghost use Rattle.vfs_tool.specs.Folder.{IsEmptyTree, PutsOver, BreaksScript, PutsTextOver, BreaksText, ReportsOver, BreaksReport};
+ghost use Rattle.vfs_tool.specs.Run.{Reports, ReportsFront, Answers, IsUnrun};
+ghost use Rattle.vfs_tool.specs.Scripts.{RunsCommands, BreaksCommands};
+ghost use Rattle.vfs_tool.specs.Folder.{PutsOver, BreaksOver, PutsTextOver, BreaksText, ReportsOver, BreaksReport};
 
 use crate::forms::{Form, form_of};
 use crate::generate::run_gen;
@@ -49,18 +46,10 @@ fn run_commands<H: Threads + Sync, T: Tree, K: Sink>(
     requires workers { IsWorkers settings.workers }
     requires lines { Each CanRun lines.now }
     requires few { length lines.now < 2 ^ 61 }
-    ensures ok { OnOk result.0 (TellsWhole T.most_faults (T.told tree) → RunsAll printed
-        (IsOpeningOf settings.queue (T.told tree)) (λ _. Unit {0})
+    ensures ok { OnOk result.0 (RunsCommands settings.queue (T.told tree) (T.told result.1)
         lines.now (K.told sink.old) (K.told sink.new)) }
-    ensures err { IfErr result.0 (λ e. TellsWhole T.most_faults (T.told tree) → BreaksOff printed
-        (IsOpeningOf settings.queue (T.told tree)) lines.now
-        (K.told sink.old) (K.told sink.new) e) }
-    ensures over { OnOk result.0 (RunsOver printed_over
-        (IsOpeningOf settings.queue (T.told tree)) (λ s. s.case ≡ (T.told result.1).case)
-        (T.told tree) (T.told result.1) lines.now (K.told sink.old) (K.told sink.new)) }
-    ensures broken { IfErr result.0 (λ e. BreaksOver printed_over
-        (IsOpeningOf settings.queue (T.told tree)) (T.told tree) lines.now
-        (K.told sink.old) (K.told sink.new) e) }
+    ensures err { IfErr result.0 (BreaksCommands settings.queue (T.told tree) (T.told result.1)
+        lines.now (K.told sink.old) (K.told sink.new)) }
     ensures later { (K.told sink.old).faults ≤ (K.told sink.new).faults }
 {
     let case = tree.case();
@@ -92,14 +81,10 @@ pub(crate) fn run_over<H: Threads + Sync, T: Tree, K: Sink>(
     requires workers { IsWorkers script.now.settings.workers }
     requires lines { Each CanRun script.now.lines }
     requires few { length script.now.lines < 2 ^ 61 }
-    ensures ok { OnOk result.0 (IsEmptyTree T.most_faults (T.told tree) →
-        PutsEach (K.told sink.old) (K.told sink.new) (lines_of script.now)) }
-    ensures err { IfErr result.0 (λ e. IsEmptyTree T.most_faults (T.told tree) →
-        Breaks (K.told sink.old) (K.told sink.new) (lines_of script.now) e) }
-    ensures over { OnOk result.0 (PutsOver T.takes_no_edits (T.told tree) (T.told result.1)
+    ensures ok { OnOk result.0 (PutsOver T.takes_no_edits (T.told tree) (T.told result.1)
         script.now (K.told sink.old) (K.told sink.new)) }
-    ensures broken { IfErr result.0 (λ e. BreaksScript T.takes_no_edits (T.told tree)
-        script.now (K.told sink.old) (K.told sink.new) e) }
+    ensures err { IfErr result.0 (BreaksOver T.takes_no_edits (T.told tree) (T.told result.1)
+        script.now (K.told sink.old) (K.told sink.new)) }
     ensures later { (K.told sink.old).faults ≤ (K.told sink.new).faults }
 {
     let settings = script.settings;
@@ -126,26 +111,19 @@ fn run_text<H: Threads + Sync, T: Tree, K: Sink>(
     sink: &mut K,
 ) -> (Status, T)
     requires { length text.now ≤ limit }
-    ensures done { result.0 ≡ Status.Done → IsEmptyTree T.most_faults (T.told tree) →
-        PutsReport text.now (K.told sink.old) (K.told sink.new) }
-    ensures done_over { result.0 ≡ Status.Done →
+    ensures done { result.0 ≡ Status.Done →
         PutsTextOver T.takes_no_edits (T.told tree) (T.told result.1)
         text.now (K.told sink.old) (K.told sink.new) }
     ensures bad { (b : BadLine) → result.0 ≡ Status.BadScript b →
         FirstBad Replay text.now b × PutsNothing (K.told sink.old) (K.told sink.new) }
     ensures faulted { result.0 ≡ Status.WriteFault →
         Rose (K.told sink.old).faults (K.told sink.new).faults }
-    ensures write_fault { result.0 ≡ Status.WriteFault → IsEmptyTree T.most_faults (T.told tree) →
-        PutsPrefix text.now (K.told sink.old) (K.told sink.new) }
-    ensures write_fault_over { result.0 ≡ Status.WriteFault →
-        BreaksText T.takes_no_edits (T.told tree)
+    ensures write_fault { result.0 ≡ Status.WriteFault →
+        BreaksText T.takes_no_edits (T.told tree) (T.told result.1)
         text.now (K.told sink.old) (K.told sink.new) Break.Fault }
-    ensures no_memory { result.0 ≡ Status.NoMemory → IsEmptyTree T.most_faults (T.told tree) →
-        PutsNothing (K.told sink.old) (K.told sink.new)
-        ⊎ PutsLines text.now (K.told sink.old) (K.told sink.new) }
-    ensures no_memory_over { result.0 ≡ Status.NoMemory →
-        PutsNothing (K.told sink.old) (K.told sink.new)
-        ⊎ BreaksText T.takes_no_edits (T.told tree)
+    ensures no_memory { result.0 ≡ Status.NoMemory →
+        (PutsNothing (K.told sink.old) (K.told sink.new) × (result.1 ≡ tree))
+        ⊎ BreaksText T.takes_no_edits (T.told tree) (T.told result.1)
         text.now (K.told sink.old) (K.told sink.new) Break.NoMemory }
     ensures usage { result.0 ≡ Status.Usage → ⊥ }
     ensures read_fault { result.0 ≡ Status.ReadFault → ⊥ }
@@ -175,9 +153,7 @@ fn run_input<H: Threads + Sync, S: Source, T: Tree, K: Sink>(
     tree: T,
     sink: &mut K,
 ) -> (Status, T)
-    ensures done { result.0 ≡ Status.Done → IsEmptyTree T.most_faults (T.told tree) →
-        Reports (S.told source.old) (S.told source.new) (K.told sink.old) (K.told sink.new) }
-    ensures done_over { result.0 ≡ Status.Done →
+    ensures done { result.0 ≡ Status.Done →
         ReportsOver T.takes_no_edits (T.told tree) (T.told result.1)
         (S.told source.old) (S.told source.new) (K.told sink.old) (K.told sink.new) }
     ensures bad { (b : BadLine) → result.0 ≡ Status.BadScript b →
@@ -193,26 +169,16 @@ fn run_input<H: Threads + Sync, S: Source, T: Tree, K: Sink>(
         × PutsNothing (K.told sink.old) (K.told sink.new) }
     ensures faulted { result.0 ≡ Status.WriteFault →
         Rose (K.told sink.old).faults (K.told sink.new).faults }
-    ensures write_fault { result.0 ≡ Status.WriteFault → IsEmptyTree T.most_faults (T.told tree) →
-        ReportsPrefix (S.told source.old) (S.told source.new)
-        (K.told sink.old) (K.told sink.new) }
-    ensures write_fault_over { result.0 ≡ Status.WriteFault →
-        BreaksReport T.takes_no_edits (T.told tree) (S.told source.old) (S.told source.new)
-        (K.told sink.old) (K.told sink.new) Break.Fault }
-    ensures no_memory { result.0 ≡ Status.NoMemory → IsEmptyTree T.most_faults (T.told tree) →
-        TakesSome (S.told source.old).left (S.told source.new).left (λ n. n ≤ limit + 1)
-        × (PutsNothing (K.told sink.old) (K.told sink.new)
-        ⊎ ReportsLines (S.told source.old) (S.told source.new)
-        (K.told sink.old) (K.told sink.new)) }
-    ensures no_memory_over { result.0 ≡ Status.NoMemory →
-        TakesSome (S.told source.old).left (S.told source.new).left (λ n. n ≤ limit + 1)
-        × (PutsNothing (K.told sink.old) (K.told sink.new)
-        ⊎ BreaksReport T.takes_no_edits (T.told tree) (S.told source.old) (S.told source.new)
-        (K.told sink.old) (K.told sink.new) Break.NoMemory) }
+    ensures write_fault { result.0 ≡ Status.WriteFault →
+        BreaksReport T.takes_no_edits (T.told tree) (T.told result.1)
+        (S.told source.old) (S.told source.new) (K.told sink.old) (K.told sink.new) Break.Fault }
+    ensures no_memory { result.0 ≡ Status.NoMemory →
+        TakesSome (S.told source.old).left (S.told source.new).left (λ n. n ≤ limit)
+        × ((PutsNothing (K.told sink.old) (K.told sink.new) × (result.1 ≡ tree))
+        ⊎ BreaksReport T.takes_no_edits (T.told tree) (T.told result.1)
+        (S.told source.old) (S.told source.new) (K.told sink.old) (K.told sink.new) Break.NoMemory) }
     ensures complete { (S.told source.old).faults ≡ (S.told source.new).faults
-        → (S.told source.old).faults < 2 ^ 64 - 1
         → (K.told sink.old).faults ≡ (K.told sink.new).faults
-        → (K.told sink.old).faults < 2 ^ 64 - 1
         → (input : List ℕ) → (S.told source.old).left ≡ Some input → length input ≤ limit
         → Answers input result.0 }
     ensures usage { result.0 ≡ Status.Usage → ⊥ }
@@ -252,17 +218,18 @@ pub fn run<H: Threads + Sync, S: Source, K: Sink, T: Tree>(
         TakesNothing (S.told source.old) (S.told source.new)
         × PutsNothing (K.told sink.old) (K.told sink.new) }
 
-    // The input was taken to its end, it is the text of a script, the whole report was put, each line
-    // by a call of its own, each state of that run is sound, and each build in it shows the
-    // fingerprint of its inputs in the tree as it stands then.
+    // The input was taken to its end, it is the text of a script, and what was put is its report, each
+    // line by a call of its own: the texts of a whole run of the script over the empty tree. Each state
+    // of that run is sound, and each build in it shows the fingerprint of its inputs in the tree as it
+    // stands then.
     ensures done { IsReplay words.now → result.0 ≡ Status.Done →
         Reports (S.told source.old) (S.told source.new) (K.told sink.old) (K.told sink.new) }
 
-    // The input was taken to its end, it is the text of a script, and what was put is the report on it
-    // over what the tree answered in this call, each edit to an edit and each look to a look: as it told
-    // it where it tells its answers, and else over some answers, of which no more are failed looks than
-    // its count of faults rose by. Where the tree tells its content, each of them is the one that was
-    // due, or a look that failed.
+    // The input was taken to its end, it is the text of a script, and what was put is the texts of a
+    // whole run of it over the tree that is handed in: each call that a line asks for was made, once, in
+    // order, and what the tree answered in these calls is all that it answered. Where it tells its
+    // content, each answer is the one that was due, or that of a look that failed; and its count of
+    // faults rose by the looks that failed.
     ensures done_over { IsFolder words.now → result.0 ≡ Status.Done →
         ReportsOver T.takes_no_edits (T.told folder) (T.told result.1)
         (S.told source.old) (S.told source.new) (K.told sink.old) (K.told sink.new) }
@@ -284,36 +251,36 @@ pub fn run<H: Threads + Sync, S: Source, K: Sink, T: Tree>(
         × TakesSome (S.told source.old).left (S.told source.new).left (λ n. n ≤ limit)
         × PutsNothing (K.told sink.old) (K.told sink.new) }
 
-    // The cause lies with the sink, and a prefix of the report was put, whole lines each by a call of
-    // its own.
+    // The cause lies with the sink. The front of the report was put: whole lines, each by a call of its
+    // own, and a front of the next. Over the tree that is handed in the same calls were made of it as
+    // over any other, up to that line, and it comes back as they left it.
     ensures write_fault { IsReplay words.now → result.0 ≡ Status.WriteFault →
         Rose (K.told sink.old).faults (K.told sink.new).faults
-        × ReportsPrefix (S.told source.old) (S.told source.new)
-        (K.told sink.old) (K.told sink.new) }
+        × ReportsFront (S.told source.old) (S.told source.new)
+        (K.told sink.old) (K.told sink.new) Break.Fault }
     ensures write_fault_over { IsFolder words.now → result.0 ≡ Status.WriteFault →
         Rose (K.told sink.old).faults (K.told sink.new).faults
-        × BreaksReport T.takes_no_edits (T.told folder) (S.told source.old) (S.told source.new)
-        (K.told sink.old) (K.told sink.new) Break.Fault }
+        × BreaksReport T.takes_no_edits (T.told folder) (T.told result.1)
+        (S.told source.old) (S.told source.new) (K.told sink.old) (K.told sink.new) Break.Fault }
 
-    // Nothing was put, or whole lines of the report, from the first on.
+    // Nothing was put and the tree comes back as it was, or whole lines of the report were put, from the
+    // first on, and of the next line nothing, though some of its calls may have been made.
     ensures no_memory { IsReplay words.now → result.0 ≡ Status.NoMemory →
-        TakesSome (S.told source.old).left (S.told source.new).left (λ n. n ≤ limit + 1)
+        TakesSome (S.told source.old).left (S.told source.new).left (λ n. n ≤ limit)
         × (PutsNothing (K.told sink.old) (K.told sink.new)
-        ⊎ ReportsLines (S.told source.old) (S.told source.new)
-        (K.told sink.old) (K.told sink.new)) }
-    ensures no_memory_over { IsFolder words.now → result.0 ≡ Status.NoMemory →
-        TakesSome (S.told source.old).left (S.told source.new).left (λ n. n ≤ limit + 1)
-        × (PutsNothing (K.told sink.old) (K.told sink.new)
-        ⊎ BreaksReport T.takes_no_edits (T.told folder) (S.told source.old) (S.told source.new)
+        ⊎ ReportsFront (S.told source.old) (S.told source.new)
         (K.told sink.old) (K.told sink.new) Break.NoMemory) }
+    ensures no_memory_over { IsFolder words.now → result.0 ≡ Status.NoMemory →
+        TakesSome (S.told source.old).left (S.told source.new).left (λ n. n ≤ limit)
+        × ((PutsNothing (K.told sink.old) (K.told sink.new) × (result.1 ≡ folder))
+        ⊎ BreaksReport T.takes_no_edits (T.told folder) (T.told result.1)
+        (S.told source.old) (S.told source.new) (K.told sink.old) (K.told sink.new) Break.NoMemory) }
 
     // A known input within the limit is answered by what it is, unless a fault of the source or the
     // sink comes or memory is wanting. A look that fails ends nothing.
     ensures complete { IsReplay words.now ⊎ IsFolder words.now
         → (S.told source.old).faults ≡ (S.told source.new).faults
-        → (S.told source.old).faults < 2 ^ 64 - 1
         → (K.told sink.old).faults ≡ (K.told sink.new).faults
-        → (K.told sink.old).faults < 2 ^ 64 - 1
         → (input : List ℕ) → (S.told source.old).left ≡ Some input → length input ≤ limit
         → Answers input result.0 }
 
@@ -322,7 +289,8 @@ pub fn run<H: Threads + Sync, S: Source, K: Sink, T: Tree>(
     ensures generated { (n : ℕ) → IsGen n words.now → GenEnds n (K.told sink.old) (K.told sink.new) result.0 }
     ensures untouched { (n : ℕ) → IsGen n words.now → source.new ≡ source.old }
 
-    // The tree that is handed in comes back as it is, unless a script was run over it.
+    // The tree that is handed in comes back as it is, unless a script was run over it: then what was done
+    // to it is told above.
     ensures other_words { (IsFolder words.now → ⊥) → result.1 ≡ folder }
     ensures unrun { IsUnrun result.0 → result.1 ≡ folder }
 

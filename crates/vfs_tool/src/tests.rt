@@ -391,6 +391,47 @@ fn hashes_while_it_reads_by_any_number_of_workers(rt: HostRuntime) -> Result<(),
 }
 
 #[test]
+fn scans_more_than_seventy_thousand_locations(rt: HostRuntime) -> Result<(), Fail> {
+    let alloc = rt.alloc();
+    let mut script = Vec::new(alloc);
+    for i in 0..18u64 {
+        let directory = format!(in alloc; "/d{i:02}")?;
+        put_directory(alloc, &mut script, directory.as_str(), 4096)?;
+    }
+    // One name more than a directory may have, a directory with as many, and the whole.
+    script.extend_from_slice(b"set file /d00/x\n0 begin /d17\n0 read\n1 scan /\n")?;
+    let mut report = Vec::new(alloc);
+    for _ in 0..18 * 4097u64 {
+        report.extend_from_slice(b"ok\n")?;
+    }
+    report.extend_from_slice(
+        b"refused 8\nversion 0\nsaw /d17 dir left 4096\nstored reads 73747\n",
+    )?;
+    let ended = run_with(&rt, alloc, &["replay"], script.as_slice(), &[], &[])?;
+    assert_eq!(rt; ended.status, Status::Done);
+    assert!(rt; ended.written.as_slice() == report.as_slice());
+    Ok(())
+}
+
+#[test]
+fn begins_at_one_to_sixty_four_names(rt: HostRuntime) -> Result<(), Fail> {
+    let alloc = rt.alloc();
+    let (mut script, mut report) = (Vec::new(alloc), Vec::new(alloc));
+    let mut path = Vec::new(alloc);
+    for _ in 0..64 {
+        path.extend_from_slice(b"/x")?;
+        script.extend_from_slice(b"0 begin ")?;
+        script.extend_from_slice(path.as_slice())?;
+        script.extend_from_slice(b"\n0 abandon\n")?;
+        report.extend_from_slice(b"version 0\nabandoned\n")?;
+    }
+    let ended = run_with(&rt, alloc, &["replay"], script.as_slice(), &[], &[])?;
+    assert_eq!(rt; ended.status, Status::Done);
+    assert_eq!(rt; ended.written.as_slice(), report.as_slice());
+    Ok(())
+}
+
+#[test]
 fn keeps_fingerprints_until_something_related_is_delivered(rt: HostRuntime) -> Result<(), Fail> {
     let table: [(&[u8], &[u8]); 3] = [
         (

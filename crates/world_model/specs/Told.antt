@@ -14,9 +14,9 @@ pub record TreeTold : Type 0 where
   pub faults : ℕ
   pub answers : Option (List TreeAnswer)
 
--- the tree tells its content, and has no fault to count
-abbrev pub TellsWhole : ℕ → TreeTold → Type 0
-TellsWhole most told = (is_some told.content ≡ true) × (most ≡ 0)
+-- the tree tells its content, and none of its looks fails
+abbrev pub TellsWhole : Bool → TreeTold → Type 0
+TellsWhole never_fails told = (is_some told.content ≡ true) × (never_fails ≡ true)
 
 -- the answers, and these behind them
 abbrev pub with_answers : List TreeAnswer → List TreeAnswer → List TreeAnswer

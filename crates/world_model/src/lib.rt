@@ -3,12 +3,14 @@
 
 mod edit;
 mod entry;
+mod faults;
 mod intake;
 mod settings;
 mod tree;
 
 pub use edit::{ApplyError, Edit, EditError, Events};
 pub use entry::{Entry, LookError};
+pub use faults::FaultCount;
 pub use intake::{Fit, Front, Intake};
 pub use settings::Settings;
 pub use tree::Tree;

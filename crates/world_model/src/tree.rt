@@ -1,6 +1,6 @@
 //! Trees.
 
-ghost use Rattle.std.specs.Prelude.{◌≡◌, ◌≤◌, ◌⊎◌, ℕ, Bool, true, Some, None, Err, IfOk, IfErr, OnOk, OnErr, length, option_map};
+ghost use Rattle.std.specs.Prelude.{◌≡◌, ◌≤◌, Bool, true, Some, None, Err, IfOk, IfErr, OnOk, OnErr, length, option_map};
 ghost use Rattle.vfs_model.specs.Paths.{place};
 ghost use Rattle.vfs_model.specs.World.{World, IsWorld};
 ghost use Rattle.vfs_model.specs.Edit as edits;
@@ -27,8 +27,8 @@ use vfs_path::Path;
 pub trait Tree {
     ghost told: { Self → TreeTold };
 
-    /// As many faults as it can ever count.
-    ghost most_faults: { ℕ };
+    /// Whether none of its looks fails.
+    ghost never_fails: { Bool };
 
     /// Whether it refuses every edit.
     ghost takes_no_edits: { Bool };
@@ -47,10 +47,10 @@ pub trait Tree {
         ensures case { (told self.new).case ≡ (told self.old).case }
         ensures content { (told self.new).content ≡ (told self.old).content }
         ensures faults { (told self.old).faults ≤ (told self.new).faults }
-        ensures limit { (told self.new).faults ≤ most_faults }
         ensures shape { IfOk result (λ entry. IsLook (told self.old).case (length path.now) (look_seen entry)) }
         ensures seen { IfOk result (λ entry. (w : World) → (told self.old).content ≡ Some w → look_seen entry ≡ scanning.look (told self.old).case w (place (told self.old).case path.now)) }
         ensures failed { IfErr result (λ e. e ≡ look_error.Failed → Rose (told self.old).faults (told self.new).faults) }
+        ensures unfailing { never_fails ≡ true → result ≡ Err look_error.Failed → ⊥ }
         ensures answered { (told self.new).answers ≡ option_map (with_answers (look_answers result)) (told self.old).answers };
 
     /// Does the edit, and gives the paths that tell of it.
@@ -66,7 +66,7 @@ pub trait Tree {
         ensures applied { OnOk result (IsApplied (told self.old).case (edit_of edit.now) (told self.old).content (told self.new).content) }
         ensures refused { IfErr result (λ e. (w : World) → (told self.old).content ≡ Some w → IsRefusal (edits.refusal (told self.old).case w (edit_of edit.now)) e) }
         ensures kept { OnErr result ((told self.new).content ≡ (told self.old).content) }
-        ensures read_only { takes_no_edits ≡ true → (result ≡ Err (apply_error.Refused edit_error.ReadOnly)) ⊎ (result ≡ Err apply_error.NoMemory) }
+        ensures read_only { takes_no_edits ≡ true → result ≡ Err (apply_error.Refused edit_error.ReadOnly) }
         ensures editable { result ≡ Err (apply_error.Refused edit_error.ReadOnly) → takes_no_edits ≡ true }
         ensures answered { (told self.new).answers ≡ option_map (with_answers (edit_answers_of result)) (told self.old).answers };
 

@@ -4,6 +4,6 @@ use Rattle.vfs_laws.proofs.stale_numbers_have_grown.Goals as goal
 pub returns : goal.returns
 returns c = record {
   begin = begin-answers;
-  number = λ a s c p h n few legal keeps stale. (stale-grown a s c p h n few legal keeps stale).0;
-  grown = λ a s c p h n few legal keeps stale. (stale-grown a s c p h n few legal keeps stale).1;
+  number = λ a s c p h n few answered keeps stale. (stale-grown a s c p h n few answered keeps stale).0;
+  grown = λ a s c p h n few answered keeps stale. (stale-grown a s c p h n few answered keeps stale).1;
 }

@@ -1,51 +1,50 @@
-use Rattle.std.proofs.Common.{◌≡◌, true, false, refl, sym, ap, ◌∙◌}
-use Rattle.std.specs.Prelude.{Some, None, is_some}
-use Rattle.vfs_model.specs.State.{State}
-use Rattle.vfs_model.specs.Stands.{Stands}
-use Rattle.script_runs.specs.Building.{part_at}
-use Rattle.fingerprint_norms.specs.Meaning.{input_of}
-use Rattle.script_runs.proofs.BuildRunLemmas.{found-part, takes-hit, takes-miss, one-hit, one-miss}
-use Rattle.script_runs.proofs.OverBuildLemmas.{hit-over, miss-over}
+use Rattle.std.proofs.Common.{refl, ap, sym, ◌∙◌}
+use Rattle.std.specs.Prelude.{option_map}
+use Rattle.vfs_model.specs.State.{CallFind, CallBegin, Found, Fault}
+use Rattle.snapshot_tree.specs.Meaning.{glance_of}
+use Rattle.script_report.specs.Stages.{Stage, Asks, Reads}
+use Rattle.script_report.specs.Lines.{Counts, root_found, root_read, with_miss, tells}
+use Rattle.script_runs.specs.Making.{Stops}
+use Rattle.script_runs.specs.Taking.{counts_of}
+use Rattle.script_runs.proofs.LeadLemmas.{leads-as, leads-stop, leads-then, stops-then, call-leads, still-calls, on-err}
+use Rattle.script_runs.proofs.TakeLemmas.{found-hit, found-miss}
 use Rattle.script_runs.proofs.build.take_input.Goals as goal
 
-pub returns-then-is_some : goal.returns-then-is_some
-returns-then-is_some g c =
-    let at = g.V.Versions.version in
-    let count = g.V.Versions.count in
-    let m = c.args.machine.now in
-    let retained : (s : State) → Stands at count m s → is_some (part_at s c.args.input.now.root) ≡ true = λ s st. sym (found-part at count m c.args.input.now.root c.find.result c.find.ensures s st) ∙ sym c.is_some.ensures ∙ c.if-is_some.true in
-    record {
-      taken = λ tells. takes-hit at count m c.args.caller (input_of c.args.input.now) c.args.counts c.with_hit.result c.requires.closed retained c.with_hit.ensures;
-      over = hit-over at count m c.args.caller (input_of c.args.input.now) c.args.counts c.with_hit.result retained c.with_hit.ensures;
-      counted = one-hit c.args.counts c.with_hit.result c.with_hit.ensures;
-      left = c.requires.closed;
-    }
+pub returns-then-is_some-clause-done : goal.returns-then-is_some-clause-done
+returns-then-is_some-clause-done g c = λ more.
+    leads-as g.V.Versions.version g.V.Versions.count c.args.machine.now c.args.machine.now c.args.caller (Asks (CallFind c.args.input.now.root) (root_found c.args.caller c.args.input.now.root (counts_of c.args.counts) more)) _ (more (counts_of c.with_hit.result))
+    (found-hit c.args.caller c.args.input.now.root (counts_of c.args.counts) more c.find.result (sym c.is_some.ensures ∙ c.if-is_some.true) ∙ ap (λ z. more (counts_of z)) (sym c.with_hit.ensures))
+    (call-leads g.V.Versions.version g.V.Versions.count c.args.machine.now c.args.machine.now (CallFind c.args.input.now.root) (Found (option_map glance_of c.find.result)) c.args.caller (Asks (CallFind c.args.input.now.root) (root_found c.args.caller c.args.input.now.root (counts_of c.args.counts) more)) refl refl (still-calls g.V.Versions.version g.V.Versions.count c.args.machine.now (CallFind c.args.input.now.root) (Found (option_map glance_of c.find.result)) refl refl (λ a s st. (c.find.ensures a s st, refl))))
 
-pub returns-in-None : goal.returns-in-None
-returns-in-None g c =
-    let at = g.V.Versions.version in
-    let count = g.V.Versions.count in
-    let m = c.args.machine.now in
-    let missing : (s : State) → Stands at count m s → is_some (part_at s c.args.input.now.root) ≡ false = λ s st. sym (found-part at count m c.args.input.now.root c.find.result c.find.ensures s st) ∙ sym c.is_some.ensures ∙ c.if-is_some.false in
-    record {
-      taken = λ tells. absurd (rw c.in-None.is at c.in_ok-scan_root.ensures.scanned tells);
-      over = miss-over at count m c.scan_root.new.machine c.args.caller (input_of c.args.input.now) c.args.counts None None (rw c.in-None.is at c.in_ok-scan_root.ensures.over) missing refl;
-      counted = tt;
-      left = c.in_ok-scan_root.ensures.left;
-    }
+pub returns-in_err-scan_root-clause-broken : goal.returns-in_err-scan_root-clause-broken
+returns-in_err-scan_root-clause-broken g c =
+    let stops : (more : Counts → Stage) → Stops g.V.Versions.version g.V.Versions.count c.args.machine.now c.scan_root.new.machine c.args.caller (Asks (CallFind c.args.input.now.root) (root_found c.args.caller c.args.input.now.root (counts_of c.args.counts) more)) = λ more. stops-then g.V.Versions.version g.V.Versions.count c.args.machine.now c.args.machine.now c.scan_root.new.machine c.args.caller (Asks (CallFind c.args.input.now.root) (root_found c.args.caller c.args.input.now.root (counts_of c.args.counts) more)) (Asks (CallBegin c.args.caller c.args.input.now.root) (λ reply. Reads c.args.caller 0 (root_read c.args.caller (counts_of c.args.counts) more)))
+    (leads-as g.V.Versions.version g.V.Versions.count c.args.machine.now c.args.machine.now c.args.caller (Asks (CallFind c.args.input.now.root) (root_found c.args.caller c.args.input.now.root (counts_of c.args.counts) more)) _ (Asks (CallBegin c.args.caller c.args.input.now.root) (λ reply. Reads c.args.caller 0 (root_read c.args.caller (counts_of c.args.counts) more))) (found-miss c.args.caller c.args.input.now.root (counts_of c.args.counts) more c.find.result (sym c.is_some.ensures ∙ c.if-is_some.false))
+    (call-leads g.V.Versions.version g.V.Versions.count c.args.machine.now c.args.machine.now (CallFind c.args.input.now.root) (Found (option_map glance_of c.find.result)) c.args.caller (Asks (CallFind c.args.input.now.root) (root_found c.args.caller c.args.input.now.root (counts_of c.args.counts) more)) refl refl (still-calls g.V.Versions.version g.V.Versions.count c.args.machine.now (CallFind c.args.input.now.root) (Found (option_map glance_of c.find.result)) refl refl (λ a s st. (c.find.ensures a s st, refl)))))
+    (c.in_err-scan_root.ensures.broken (counts_of c.args.counts) more) in
+    on-err c.from_residual.result _ stops
 
-pub returns-in_ok-with_miss-in-Some : goal.returns-in_ok-with_miss-in-Some
-returns-in_ok-with_miss-in-Some g c =
-    let at = g.V.Versions.version in
-    let count = g.V.Versions.count in
-    let m = c.args.machine.now in
-    let after = c.in_ok-with_miss-in-Some.field-0 in
-    let scanned = rw c.in-Some.is at c.in_ok-scan_root.ensures.scanned in
-    let over = rw c.in-Some.is at c.in_ok-scan_root.ensures.over in
-    let missing : (s : State) → Stands at count m s → is_some (part_at s c.args.input.now.root) ≡ false = λ s st. sym (found-part at count m c.args.input.now.root c.find.result c.find.ensures s st) ∙ sym c.is_some.ensures ∙ c.if-is_some.false in
-    record {
-      taken = λ tells. takes-miss at count m c.scan_root.new.machine c.args.caller c.in-Some.reads (input_of c.args.input.now) c.args.counts after (scanned tells) missing c.in_ok-with_miss-in-Some.ensures;
-      over = miss-over at count m c.scan_root.new.machine c.args.caller (input_of c.args.input.now) c.args.counts (Some c.in-Some.reads) (Some after) over missing (ap Some c.in_ok-with_miss-in-Some.ensures);
-      counted = one-miss c.args.counts after c.in-Some.reads c.in_ok-with_miss-in-Some.ensures;
-      left = c.in_ok-scan_root.ensures.left;
-    }
+pub returns-in_err-with_miss-in-Some-clause-broken : goal.returns-in_err-with_miss-in-Some-clause-broken
+returns-in_err-with_miss-in-Some-clause-broken g c =
+    let stops : (more : Counts → Stage) → Stops g.V.Versions.version g.V.Versions.count c.args.machine.now c.scan_root.new.machine c.args.caller (Asks (CallFind c.args.input.now.root) (root_found c.args.caller c.args.input.now.root (counts_of c.args.counts) more)) = λ more. leads-stop g.V.Versions.version g.V.Versions.count c.args.machine.now c.scan_root.new.machine c.args.caller (Asks (CallFind c.args.input.now.root) (root_found c.args.caller c.args.input.now.root (counts_of c.args.counts) more)) _ (leads-then g.V.Versions.version g.V.Versions.count c.args.machine.now c.args.machine.now c.scan_root.new.machine c.args.caller (Asks (CallFind c.args.input.now.root) (root_found c.args.caller c.args.input.now.root (counts_of c.args.counts) more)) (Asks (CallBegin c.args.caller c.args.input.now.root) (λ reply. Reads c.args.caller 0 (root_read c.args.caller (counts_of c.args.counts) more))) _
+    (leads-as g.V.Versions.version g.V.Versions.count c.args.machine.now c.args.machine.now c.args.caller (Asks (CallFind c.args.input.now.root) (root_found c.args.caller c.args.input.now.root (counts_of c.args.counts) more)) _ (Asks (CallBegin c.args.caller c.args.input.now.root) (λ reply. Reads c.args.caller 0 (root_read c.args.caller (counts_of c.args.counts) more))) (found-miss c.args.caller c.args.input.now.root (counts_of c.args.counts) more c.find.result (sym c.is_some.ensures ∙ c.if-is_some.false))
+    (call-leads g.V.Versions.version g.V.Versions.count c.args.machine.now c.args.machine.now (CallFind c.args.input.now.root) (Found (option_map glance_of c.find.result)) c.args.caller (Asks (CallFind c.args.input.now.root) (root_found c.args.caller c.args.input.now.root (counts_of c.args.counts) more)) refl refl (still-calls g.V.Versions.version g.V.Versions.count c.args.machine.now (CallFind c.args.input.now.root) (Found (option_map glance_of c.find.result)) refl refl (λ a s st. (c.find.ensures a s st, refl)))))
+    (c.in_ok-scan_root.ensures.done (counts_of c.args.counts) more)) in
+    on-err _ _ stops
+
+pub returns-in-None-clause-done : goal.returns-in-None-clause-done
+returns-in-None-clause-done g c = λ more.
+    let scanned = rw c.in-None.is at c.in_ok-scan_root.ensures.done in
+    leads-then g.V.Versions.version g.V.Versions.count c.args.machine.now c.args.machine.now c.scan_root.new.machine c.args.caller (Asks (CallFind c.args.input.now.root) (root_found c.args.caller c.args.input.now.root (counts_of c.args.counts) more)) (Asks (CallBegin c.args.caller c.args.input.now.root) (λ reply. Reads c.args.caller 0 (root_read c.args.caller (counts_of c.args.counts) more))) (tells Fault)
+    (leads-as g.V.Versions.version g.V.Versions.count c.args.machine.now c.args.machine.now c.args.caller (Asks (CallFind c.args.input.now.root) (root_found c.args.caller c.args.input.now.root (counts_of c.args.counts) more)) _ (Asks (CallBegin c.args.caller c.args.input.now.root) (λ reply. Reads c.args.caller 0 (root_read c.args.caller (counts_of c.args.counts) more))) (found-miss c.args.caller c.args.input.now.root (counts_of c.args.counts) more c.find.result (sym c.is_some.ensures ∙ c.if-is_some.false))
+    (call-leads g.V.Versions.version g.V.Versions.count c.args.machine.now c.args.machine.now (CallFind c.args.input.now.root) (Found (option_map glance_of c.find.result)) c.args.caller (Asks (CallFind c.args.input.now.root) (root_found c.args.caller c.args.input.now.root (counts_of c.args.counts) more)) refl refl (still-calls g.V.Versions.version g.V.Versions.count c.args.machine.now (CallFind c.args.input.now.root) (Found (option_map glance_of c.find.result)) refl refl (λ a s st. (c.find.ensures a s st, refl)))))
+    (scanned (counts_of c.args.counts) more)
+
+pub returns-in_ok-with_miss-in-Some-clause-done : goal.returns-in_ok-with_miss-in-Some-clause-done
+returns-in_ok-with_miss-in-Some-clause-done g c = λ more.
+    let scanned = rw c.in-Some.is at c.in_ok-scan_root.ensures.done in
+    leads-as g.V.Versions.version g.V.Versions.count c.args.machine.now c.scan_root.new.machine c.args.caller (Asks (CallFind c.args.input.now.root) (root_found c.args.caller c.args.input.now.root (counts_of c.args.counts) more)) _ (more (counts_of c.in_ok-with_miss-in-Some.field-0)) (ap (λ z. more (counts_of z)) (sym c.in_ok-with_miss-in-Some.ensures))
+    (leads-then g.V.Versions.version g.V.Versions.count c.args.machine.now c.args.machine.now c.scan_root.new.machine c.args.caller (Asks (CallFind c.args.input.now.root) (root_found c.args.caller c.args.input.now.root (counts_of c.args.counts) more)) (Asks (CallBegin c.args.caller c.args.input.now.root) (λ reply. Reads c.args.caller 0 (root_read c.args.caller (counts_of c.args.counts) more))) (more (with_miss (counts_of c.args.counts) c.in-Some.reads))
+    (leads-as g.V.Versions.version g.V.Versions.count c.args.machine.now c.args.machine.now c.args.caller (Asks (CallFind c.args.input.now.root) (root_found c.args.caller c.args.input.now.root (counts_of c.args.counts) more)) _ (Asks (CallBegin c.args.caller c.args.input.now.root) (λ reply. Reads c.args.caller 0 (root_read c.args.caller (counts_of c.args.counts) more))) (found-miss c.args.caller c.args.input.now.root (counts_of c.args.counts) more c.find.result (sym c.is_some.ensures ∙ c.if-is_some.false))
+    (call-leads g.V.Versions.version g.V.Versions.count c.args.machine.now c.args.machine.now (CallFind c.args.input.now.root) (Found (option_map glance_of c.find.result)) c.args.caller (Asks (CallFind c.args.input.now.root) (root_found c.args.caller c.args.input.now.root (counts_of c.args.counts) more)) refl refl (still-calls g.V.Versions.version g.V.Versions.count c.args.machine.now (CallFind c.args.input.now.root) (Found (option_map glance_of c.find.result)) refl refl (λ a s st. (c.find.ensures a s st, refl)))))
+    (scanned (counts_of c.args.counts) more))

@@ -1,65 +1,43 @@
-use Rattle.std.proofs.Common.{◌≡◌, ◌+◌, ◌++◌, ◌∷◌, [], List, suc, map, take, drop, sym, ap, subst, ◌∙◌, refl}
-use Rattle.std.specs.Prelude.{Some, None}
-use Rattle.std.proofs.lemmas.List.{map-append}
-use Rattle.vfs_model.specs.Fingerprint.{Input}
+use Rattle.std.proofs.Common.{◌+◌, map, refl, ap, ◌∙◌, arith}
+use Rattle.vfs_model.specs.State.{Fault}
 use Rattle.fingerprint_norms.specs.Meaning.{input_of}
-use Rattle.script_runs.specs.declared.build.Counts.{Counts}
-use Rattle.script_runs.specs.CourseReport.{inputs_taken, none_taken}
-use Rattle.script_runs.specs.Over.{MachineTakes}
-use Rattle.script_runs.specs.Taking.{Takes}
-use Rattle.script_runs.proofs.PrefixLemmas.{split-at, take-next}
-use Rattle.script_runs.proofs.BuildRunLemmas.{takes-none, takes-more}
-use Rattle.script_runs.proofs.OverBuildLemmas.{none-over, more-over, stop-over}
+use Rattle.script_report.specs.Lines.{no_counts, taking, tells}
+use Rattle.script_runs.specs.Taking.{counts_of}
+use Rattle.script_runs.proofs.LeadLemmas.{leads-none, on-err}
+use Rattle.script_runs.proofs.TakeLemmas.{input-leads, input-stops, all-taken}
 use Rattle.script_runs.proofs.build.take_inputs.Goals as goal
+
+pub take_input-requires-clause-few : goal.take_input-requires-clause-few
+take_input-requires-clause-few g c = let few = c.requires.few in let here = c.loop-input-test.true in let n = c.loop-input.invariant.counted in omega (arith, few, here, n)
 
 pub loop-input-init : goal.loop-input-init
 loop-input-init g c = record {
-  taken = λ tells. takes-none g.V.Versions.version g.V.Versions.count c.args.machine.now c.args.caller (record { hits = 0; misses = 0; reads = 0 }) c.requires.closed;
-  over = none-over g.V.Versions.version g.V.Versions.count c.args.machine.now c.args.caller (record { hits = 0; misses = 0; reads = 0 });
+  done = λ all. leads-none g.V.Versions.version g.V.Versions.count c.args.machine.now c.args.caller (taking c.args.caller all (map input_of c.args.inputs.now) no_counts);
   counted = refl;
-  closed = c.requires.closed;
+  room = omega arith;
 }
 
 pub loop-input-preserved : goal.loop-input-preserved
 loop-input-preserved g c =
-    let at = g.V.Versions.version in
-    let count = g.V.Versions.count in
-    let before = c.loop-input.invariant in
-    let inputs = c.args.inputs.now in
-    let i = c.loop-input.input-index in
-    let input = c.input-item.result in
-    let old = c.args.machine.now in
-    let mid = c.loop-input.machine in
-    let new = c.take_input.new.machine in
-    let first : Counts = record { hits = 0; misses = 0; reads = 0 } in
-    let one = rw c.in-Some.is at c.in_ok-take_input.ensures.taken in
-    let over = rw c.in-Some.is at c.in_ok-take_input.ensures.over in
+    let taken = rw c.in-Some.is at c.in_ok-take_input.ensures.done in
     let counted = rw c.in-Some.is at c.in_ok-take_input.ensures.counted in
-    let next : map input_of (take (i + 1) inputs) ≡ map input_of (take i inputs) ++ input_of input ∷ [] = ap (map input_of) (take-next inputs i input c.loop-input-test.true c.input-item.is) ∙ map-append input_of (take i inputs) (input ∷ []) in record {
-      taken = λ tells.
-          subst (λ (xs : List Input). Takes at count old new c.args.caller xs first c.in-Some.more) (sym next)
-          (takes-more at count old mid new c.args.caller (map input_of (take i inputs)) (input_of input ∷ []) first c.loop-input.counts c.in-Some.more (before.taken tells) (one (before.over.answered.tells ∙ tells.0, tells.1)));
-      over =
-          subst (λ (xs : List Input). MachineTakes at count old new (λ x. inputs_taken c.args.caller (none_taken x) xs) (Some c.in-Some.more)) (sym next)
-          (more-over at count old mid new c.args.caller first c.loop-input.counts (map input_of (take i inputs)) (input_of input) (Some c.in-Some.more) before.over over);
-      counted = counted ∙ ap (λ n. n + 1) before.counted;
-      closed = c.in_ok-take_input.ensures.left;
+    let room = c.take_input.ensures.room in
+    let b = c.loop-input.invariant.room in
+    record {
+      done = input-leads g.V.Versions.version g.V.Versions.count c.args.machine.now c.loop-input.machine c.take_input.new.machine c.args.caller c.args.inputs.now c.loop-input.input-index c.input-item.result (counts_of c.loop-input.counts) (λ more. more (counts_of c.in-Some.more)) c.loop-input-test.true c.input-item.is c.loop-input.invariant.done taken;
+      counted = counted ∙ ap (λ n. n + 1) c.loop-input.invariant.counted;
+      room = omega (arith, room, b);
     }
 
-pub returns-in-None : goal.returns-in-None
-returns-in-None g c =
-    let at = g.V.Versions.version in
-    let count = g.V.Versions.count in
-    let before = c.loop-input.invariant in
-    let inputs = c.args.inputs.now in
-    let i = c.loop-input.input-index in
-    let input = c.input-item.result in
-    let first : Counts = record { hits = 0; misses = 0; reads = 0 } in
-    let one = rw c.in-None.is at c.in_ok-take_input.ensures.taken in
-    let over = rw c.in-None.is at c.in_ok-take_input.ensures.over in
-    let all : map input_of inputs ≡ map input_of (take i inputs) ++ input_of input ∷ map input_of (drop (suc i) inputs) = ap (map input_of) (split-at inputs i input c.loop-input-test.true c.input-item.is) ∙ map-append input_of (take i inputs) (input ∷ drop (suc i) inputs) in record {
-      taken = λ tells. absurd (one (before.over.answered.tells ∙ tells.0, tells.1));
-      over =
-          subst (λ (xs : List Input). MachineTakes at count c.args.machine.now c.take_input.new.machine (λ x. inputs_taken c.args.caller (none_taken x) xs) None) (sym all)
-          (stop-over at count c.args.machine.now c.loop-input.machine c.take_input.new.machine c.args.caller first c.loop-input.counts (map input_of (take i inputs)) (input_of input) (map input_of (drop (suc i) inputs)) before.over over);
-    }
+pub returns-in-None-clause-done : goal.returns-in-None-clause-done
+returns-in-None-clause-done g c =
+    let taken = rw c.in-None.is at c.in_ok-take_input.ensures.done in
+    input-leads g.V.Versions.version g.V.Versions.count c.args.machine.now c.loop-input.machine c.take_input.new.machine c.args.caller c.args.inputs.now c.loop-input.input-index c.input-item.result (counts_of c.loop-input.counts) (λ more. tells Fault) c.loop-input-test.true c.input-item.is c.loop-input.invariant.done taken
+
+pub returns-in_err-take_input-clause-broken : goal.returns-in_err-take_input-clause-broken
+returns-in_err-take_input-clause-broken g c =
+    on-err c.from_residual.result _ (input-stops g.V.Versions.version g.V.Versions.count c.args.machine.now c.loop-input.machine c.take_input.new.machine c.args.caller c.args.inputs.now c.loop-input.input-index c.input-item.result (counts_of c.loop-input.counts) c.loop-input-test.true c.input-item.is c.loop-input.invariant.done c.in_err-take_input.ensures.broken)
+
+pub returns-clause-done : goal.returns-clause-done
+returns-clause-done g c =
+    all-taken g.V.Versions.version g.V.Versions.count c.args.machine.now c.loop-input.machine c.args.caller c.args.inputs.now c.loop-input.input-index (counts_of c.loop-input.counts) (omega (arith, c.loop-input-test.false)) c.loop-input.invariant.done

@@ -2,8 +2,8 @@ use Rattle.std.proofs.Common.{arith}
 use Rattle.vfs_io.proofs.WholeLemmas.{limited-read}
 use Rattle.vfs_io.proofs.look.read_whole.Goals as goal
 
-pub returns-in-Ok : goal.returns-in-Ok
-returns-in-Ok g c =
+pub returns-in-Ok-clause-whole : goal.returns-in-Ok-clause-whole
+returns-in-Ok-clause-whole g c =
     let count = c.len.ensures in
     let few = c.if-len-le-MAX_BYTES.true in
     record {

@@ -1,6 +1,6 @@
 use Rattle.std.proofs.Common.{map, take}
 use Rattle.std.specs.List.{AllByRecursion as Each}
-use Rattle.vfs_model.specs.History.{IsShort}
+use Rattle.vfs_model.specs.Paths.{IsShort}
 use Rattle.vfs_model.specs.Fingerprint.{Input}
 use Rattle.fingerprint_norms.specs.Meaning.{input_of}
 use Rattle.vfs_machine.proofs.roots.ask_roots.Given as goal

@@ -1,6 +1,5 @@
 use Rattle.std.proofs.Common.{refl}
-use Rattle.vfs_path.proofs.Segments.{parts_spelled}
 use Rattle.vfs_path.proofs.text.names_between.Goals as goal
 
 pub loop-left-init : goal.loop-left-init
-loop-left-init c = rw c.new-names.ensures.items (record { both = refl; refusal = refl; spelled = parts_spelled c.args.text.now c.requires })
+loop-left-init c = rw c.new-names.ensures.items (record { both = refl; each = c.requires.names })

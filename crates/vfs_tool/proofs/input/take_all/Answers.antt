@@ -1,6 +1,4 @@
-use Rattle.std.proofs.Common.{ℕ, arith}
 use Rattle.std.proofs.lemmas.Result.{err_from_is_err_and}
-use Rattle.std.proofs.lemmas.List.{length-take}
 use Rattle.vfs_tool.proofs.TakeLemmas.{stops_on, more_asked}
 use Rattle.vfs_tool.proofs.input.take_all.Goals as goal
 
@@ -9,7 +7,7 @@ returns-in_err-count-clause-err g c =
     let p = err_from_is_err_and c.from_residual.result c.from_residual.ensures.1 in
     let inv = c.takes.invariant in
     rw (p.1, p.2)
-    (stops_on c.in_err-count.field-0.0 (g.S.Source.told c.args.source.now) (g.S.Source.told c.takes.source) (g.S.Source.told c.take_more.new.source) c.takes.text.items _ inv.took (omega (arith, length-take {A = ℕ}, inv.within, inv.room)) inv.later c.in_err-count.ensures.short c.in_err-count.ensures.err)
+    (stops_on c.in_err-count.field-0.0 (g.S.Source.told c.args.source.now) (g.S.Source.told c.takes.source) (g.S.Source.told c.take_more.new.source) c.takes.text.items inv.took inv.within inv.later c.in_err-count.ensures.err)
 
 pub returns-in_err-count-clause-asked : goal.returns-in_err-count-clause-asked
 returns-in_err-count-clause-asked g c = more_asked (g.S.Source.told c.args.source.now) (g.S.Source.told c.takes.source) (g.S.Source.told c.take_more.new.source) 65536 c.takes.invariant.asked c.take_more.ensures.asked

@@ -7,7 +7,7 @@ abbrev pub invariant-takes : goal.invariant-takes
 invariant-takes g l = record {
   took : Consumes (g.S.Source.told l.initial.source).left (g.S.Source.told l.source).left l.text.items;
   asked : AsksAtMost (g.S.Source.told l.initial.source) (g.S.Source.told l.source) 65536;
-  within : length l.text.items ≤ limit + 1;
+  within : length l.text.items ≤ limit;
   room : length l.buf ≡ 65536;
   later : (g.S.Source.told l.initial.source).faults ≤ (g.S.Source.told l.source).faults;
 }

@@ -25,7 +25,7 @@ use denote.Triple.Entry.{alive}
 use denote.Triple.Spec.{Meets, triple_of}
 use denote.Triple.Table.{entered}
 use denote.Triple.Walked.{says, Stays, stay_dropped, walk_of, ends_at, walk_Meets, Goes-dropped}
-use Rattle.mem_tree.proofs.Walks.{none, none_made}
+use Rattle.world_model.proofs.Walks.{none, none_made}
 use Rattle.mem_tree.specs.contracts.trail.Trail as Trail
 use Rattle.mem_tree.specs.contracts.trail.Given as Given
 use Rattle.mem_tree.specs.Given.{answers_in}

@@ -23,7 +23,7 @@ use denote.Triple.Entry.{alive}
 use denote.Triple.Spec.{Meets, triple_of}
 use denote.Triple.Table.{entered}
 use denote.Triple.Walked.{says, Stays, walk_of, ends_at, walk_Meets}
-use Rattle.mem_tree.proofs.Walks.{none, none_made}
+use Rattle.world_model.proofs.Walks.{none, none_made}
 use Rattle.mem_tree.specs.contracts.trail.Trail as Trail
 use Rattle.mem_tree.specs.contracts.trail.Trail.new as F
 use Rattle.mem_tree.specs.contracts.trail.Trail.new.Key.{name as #self}

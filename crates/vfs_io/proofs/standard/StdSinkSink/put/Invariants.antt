@@ -6,7 +6,7 @@ abbrev pub invariant-loop-done : goal.invariant-loop-done
 invariant-loop-done g l = record {
   appended : Appends l.fn.self.bytes (g.W.Write.contents l.self-inside.writer) (take l.done l.piece);
   within : l.done ≤ length l.piece;
-  no_fault : l.self-inside.faults ≡ l.fn.self.faults;
+  no_fault : l.self-inside.faults.count ≡ l.fn.self.faults;
 }
 
 abbrev pub decreases-loop-done : goal.decreases-loop-done

@@ -28,3 +28,6 @@ pub returns-clause-world : goal.returns-clause-world
 returns-clause-world g c =
     rw (← c.self.view_is)
     (λ w digest told events mark is. digest-told g.V.Versions.version g.V.Versions.count _ _ w (map input_of c.args.inputs.now) _ digest told (c.case-case.ensures.world w told) events mark c.self.invariant c.fingerprint.ensures.step is)
+
+pub returns-clause-kept : goal.returns-clause-kept
+returns-clause-kept g c = rw (← c.self.view_is) c.fingerprint.ensures.kept

@@ -17,4 +17,4 @@ returns-clause-last g c = rw (← c.self.view_is) c.publish.ensures.last
 pub returns-clause-stale : goal.returns-clause-stale
 returns-clause-stale g c =
     rw (← c.self.view_is)
-    (λ s p h few legal keeps st. publish-stale not_asked s c.args.scan p h c.publish.result _ few legal keeps (c.publish.ensures.step not_asked _ st) (c.publish.ensures.last not_asked _ st))
+    (λ s p h few answered keeps st. publish-stale not_asked s c.args.scan p h c.publish.result _ few answered keeps (c.publish.ensures.step not_asked _ st) (c.publish.ensures.last not_asked _ st))

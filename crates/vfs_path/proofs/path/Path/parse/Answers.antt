@@ -1,12 +1,23 @@
-use Rattle.std.proofs.Common.{◌≡◌, true, sym}
-use Rattle.vfs_path.specs.Texts.{has_path_bytes}
-use Rattle.vfs_path.proofs.Segments.{parts_spelled, path_from_segments, rest_bytes}
+use Rattle.std.proofs.Common.{◌≡◌, sym, Some, ◌∙◌}
+use Rattle.std.specs.List.{slice_split}
+use Rattle.vfs_path.specs.declared.error.PathError.TheVariants.{NoMemory}
+use Rattle.vfs_path.specs.Texts.{is_slash, segments_refusal}
+use Rattle.vfs_path.proofs.Segments.{path_from_rest}
+use Rattle.vfs_path.proofs.Unsaid.{refused_segments}
 use Rattle.vfs_path.proofs.path.Path.parse.Goals as goal
 
 pub names_between-requires : goal.names_between-requires
-names_between-requires c = rest_bytes c.args.text.now c.in-Some.rest.now c.in-Some.ensures (sym c.if-not-has_path_bytes.ensures)
+names_between-requires c =
+    path_from_rest c.args.text.now c.in-Some.rest.now c.in-Some.ensures (sym c.if-not-has_path_bytes.ensures)
+    (sym c.segments_refusal.ensures ∙ c.in_default-segments_refusal.is)
 
 pub with_names-requires : goal.with_names-requires
 with_names-requires c =
-    let bytes : has_path_bytes c.in-Some.rest.now ≡ true = rest_bytes c.args.text.now c.in-Some.rest.now c.in-Some.ensures (sym c.if-not-has_path_bytes.ensures) in
-    rw c.in_ok-names.ensures.names.0 (path_from_segments _ (parts_spelled c.in-Some.rest.now bytes) c.in_ok-names.ensures.names.1)
+    rw c.in_ok-names.ensures
+    (path_from_rest c.args.text.now c.in-Some.rest.now c.in-Some.ensures (sym c.if-not-has_path_bytes.ensures)
+    (sym c.segments_refusal.ensures ∙ c.in_default-segments_refusal.is))
+
+pub returns-in-Some-segments_refusal-clause-memory : goal.returns-in-Some-segments_refusal-clause-memory
+returns-in-Some-segments_refusal-clause-memory c e =
+    let due : segments_refusal 0 (slice_split is_slash c.in-Some.rest.now) ≡ Some NoMemory = cc (c.segments_refusal.ensures, c.in-Some-segments_refusal.is, e) in
+    absurd (refused_segments 0 (slice_split is_slash c.in-Some.rest.now) due)

@@ -1,0 +1,12 @@
+pub mod RunRows
+pub mod EachAtLemmas
+pub mod ToldLemmas
+pub mod SameLemmas
+pub mod LegalLemmas
+pub mod BuildLemmas
+pub mod EndLemmas
+pub mod ChainLemmas
+pub mod ReportLemmas
+pub mod TextLemmas
+pub mod ApartLemmas
+pub mod PrintedLemmas
