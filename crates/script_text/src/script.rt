@@ -96,21 +96,10 @@ impl Share for Opening {
     }
 }
 
-fn share_edit(edit: &Edit) -> Result<Edit, NoMemory>
-    ensures { IfOk result (λ copy. copy ≡ edit.now) }
-{
-    Ok(match edit {
-        Edit::Write(path, content) => Edit::Write(path.share()?, content.share()?),
-        Edit::Mkdir(path) => Edit::Mkdir(path.share()?),
-        Edit::Remove(path) => Edit::Remove(path.share()?),
-        Edit::Move(from, to) => Edit::Move(from.share()?, to.share()?),
-    })
-}
-
 impl Share for Command {
     fn share(&self) -> Result<Command, NoMemory> {
         Ok(match self {
-            Command::Edit(edit) => Command::Edit(share_edit(edit)?),
+            Command::Edit(edit) => Command::Edit(edit.share()?),
             Command::Event(path) => Command::Event(path.share()?),
             Command::Lose => Command::Lose,
             Command::Deliver => Command::Deliver,

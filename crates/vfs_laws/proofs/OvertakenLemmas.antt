@@ -308,11 +308,11 @@ version_from-any n (e ∷ es) x =
     (λ t. rw t ((λ h. omega arith), λ h. absurd (true≢false h)))
     (λ t. rw t ((λ h. omega (arith, deeper.0 h)), λ h. omega (arith, deeper.1 h)))
 
-version_from-bound : (n : ℕ) (es : List Path) (x : Path) → version_from n es x ≤ n + length es
+pub version_from-bound : (n : ℕ) (es : List Path) (x : Path) → version_from n es x ≤ n + length es
 version_from-bound n [] x = omega arith
 version_from-bound n (e ∷ es) x = split (is_related e x) (λ t. rw t (omega (arith, version_from-bound (n + 1) es x))) (λ t. rw t (omega (arith, version_from-bound (n + 1) es x)))
 
-version_from-append : (n : ℕ) (es fs : List Path) (x : Path) → version_from n (es ++ fs) x ≡ max (version_from n es x) (version_from (n + length es) fs x)
+pub version_from-append : (n : ℕ) (es fs : List Path) (x : Path) → version_from n (es ++ fs) x ≡ max (version_from n es x) (version_from (n + length es) fs x)
 version_from-append n [] fs x = rw (add-zero n) (omega arith)
 version_from-append n (e ∷ es) fs x =
     let same : n + 1 + length es ≡ n + length (e ∷ es) = omega arith in

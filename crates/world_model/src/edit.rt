@@ -4,7 +4,7 @@ ghost use Rattle.std.specs.Prelude.{◌≡◌};
 ghost use Rattle.world_model.specs.declared.edit.ApplyError.TheVariants as apply_error;
 ghost use Rattle.world_model.specs.Meaning.{number_of};
 
-use case_order::NoMemory;
+use case_order::{NoMemory, Share};
 use merkle_hash::Bytes;
 use thiserror::Error;
 use vfs_path::Path;
@@ -21,6 +21,17 @@ pub enum Edit {
     /// Moves what is at the first path, with all below it, to the second, whose last name gives it
     /// its spelling.
     Move(Path, Path),
+}
+
+impl Share for Edit {
+    fn share(&self) -> Result<Edit, NoMemory> {
+        Ok(match self {
+            Edit::Write(path, content) => Edit::Write(path.share()?, content.share()?),
+            Edit::Mkdir(path) => Edit::Mkdir(path.share()?),
+            Edit::Remove(path) => Edit::Remove(path.share()?),
+            Edit::Move(from, to) => Edit::Move(from.share()?, to.share()?),
+        })
+    }
 }
 
 /// The paths that tell of an edit that was done.
