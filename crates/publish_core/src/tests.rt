@@ -2,16 +2,18 @@
 
 ghost use Rattle.std.specs.Prelude.{◌≡◌, ◌≢◌, ◌<◌, ◌^◌, [], IfOk, Some, length, map};
 ghost use Rattle.vfs_model.specs.declared.Case.{Case as CaseOf};
+ghost use Rattle.vfs_model.specs.declared.Case.TheVariants.{Insensitive};
 ghost use Rattle.vfs_model.specs.Snapshot.{Missing, IsTree};
 ghost use Rattle.snapshot_tree.specs.Meaning.{meaning_of};
 ghost use Rattle.snapshot_hierarchy.specs.Held.{change_of};
 
-use crate::{Published, Refusal, Vfs};
+use crate::{MakeSnapshot, Published, Refusal, Vfs};
 use case_order::{Case, NoMemory, Share, share_all};
 use merkle_hash::{Digest, file_digest};
 use snapshot_hierarchy::{Change, FlatRetain, Retain, Shown, Stored};
 use snapshot_tree::{DirBuilder, Glance, Kind, Snapshot};
 use std::alloc::Global;
+use std::cell::Cell;
 use std::process::Abort;
 use std::sync::Wait;
 use std::test::Fail;
@@ -126,6 +128,42 @@ fn ticket_is_stale_where_a_related_path_was_invalidated(rt: HostRuntime) -> Resu
         let mut vfs = empty(alloc);
         assert_eq!(rt; publish_after(&rt, alloc, &mut vfs, at)?, want, "at {at}");
     }
+    Ok(())
+}
+
+/// The making of a snapshot of nothing, which is counted.
+#[derive(Drop)]
+struct Counted<'a> {
+    makings: &'a Cell<u64>,
+}
+
+impl<'a> MakeSnapshot for Counted<'a> {
+    ghost case = { λ _. Insensitive };
+
+    ghost made = { λ _. Missing };
+
+    fn make(self) -> Result<Snapshot, NoMemory> {
+        self.makings.set(self.makings.get().saturating_add(1));
+        Ok(Snapshot::Missing)
+    }
+}
+
+#[test]
+fn refused_publication_makes_no_snapshot(rt: HostRuntime) -> Result<(), Fail> {
+    let alloc = rt.alloc();
+    let mut vfs = empty(alloc);
+    let makings = Cell::new(0u64);
+    let early = vfs.begin(path(alloc, "/a/b")?);
+    vfs.invalidate(&path(alloc, "/a")?)?;
+    let stale = vfs.publish_made(&early, Counted { makings: &makings });
+    assert_eq!(rt; (stale, makings.get()), (Published::Stale(1), 0));
+    let fresh = vfs.begin(path(alloc, "/a/b")?);
+    let stored = vfs.publish_made(&fresh, Counted { makings: &makings });
+    assert_eq!(rt; (stored, makings.get()), (Published::Stored, 1));
+    let below = vfs.begin(path(alloc, "/a/b/c")?);
+    let covered = vfs.publish_made(&below, Counted { makings: &makings });
+    assert_eq!(rt; (covered, makings.get()), (Published::Covered, 1));
+    assert_eq!(rt; kind_at(alloc, &vfs, "/a/b")?, Some(Kind::Missing));
     Ok(())
 }
 

@@ -13,6 +13,7 @@ ghost use Rattle.snapshot_tree.specs.Meaning.{meaning_of, glance_of};
 ghost use Rattle.snapshot_hierarchy.specs.Held.{nothing};
 ghost use Rattle.publish_core.specs.Publication.{IsRefusal, IsAnswer, retained_after, changes_published, is_stale};
 
+use crate::making::{MakeSnapshot, Ready};
 use crate::published::{Published, Refusal};
 use case_order::{Case, NoMemory};
 use snapshot_hierarchy::{Retain, Shown, Stored};
@@ -153,13 +154,45 @@ impl<R: Retain, V: Versions> Vfs<R, V> {
             → ticket.seen ≡ pending.version past (paths.place self.old.case ticket.path)
             → is_stale result ≡ list_any (λ e. paths.is_related e (paths.place self.old.case ticket.path)) since }
     {
-        match self.refusal(&ticket) {
+        let ready = Ready::new(self.case(), snapshot);
+        self.publish_made(&ticket, ready)
+    }
+
+    /// Retains a snapshot at the ticket's path as `publish` does, and makes it only where nothing
+    /// refuses it.
+    ///
+    /// The snapshot is made under the case of what is retained. The answers are those of `publish`:
+    /// want of memory comes last, and then it may be that of the making.
+    pub fn publish_made<M: MakeSnapshot>(&mut self, ticket: &Ticket, making: M) -> Published
+        requires { M.case making ≡ self.old.case }
+        ensures case { self.new.case ≡ self.old.case }
+        ensures versions { self.new.versions ≡ self.old.versions }
+        ensures answer { IsAnswer
+            (V.version self.old.versions (paths.place self.old.case ticket.now.path))
+            ticket.now.seen
+            (spec.is_covered self.old.retained.pairs (paths.place self.old.case ticket.now.path))
+            result }
+        ensures retained { self.new.retained
+            ≡ retained_after (paths.place self.old.case ticket.now.path) (M.made making)
+            self.old.retained result }
+        ensures log { self.new.log ≡ option_map
+            (with_changes (changes_published ticket.now.path (M.made making) result)) self.old.log }
+        ensures since { (past since : List paths.Path)
+            → StandsFor (V.version self.old.versions) (V.count self.old.versions) (past ++ since)
+            → ticket.now.seen ≡ pending.version past (paths.place self.old.case ticket.now.path)
+            → is_stale result ≡ list_any
+            (λ e. paths.is_related e (paths.place self.old.case ticket.now.path)) since }
+    {
+        match self.refusal(ticket) {
             Some(Refusal::Stale(version)) => Published::Stale(version),
             Some(Refusal::Covered) => Published::Covered,
-            None => match self.retained.store(&ticket.path, snapshot) {
-                Ok(Stored::Kept) => Published::Stored,
-                Ok(Stored::Covered) => Published::Covered,
+            None => match making.make() {
                 Err(NoMemory) => Published::NoMemory,
+                Ok(snapshot) => match self.retained.store(&ticket.path, snapshot) {
+                    Ok(Stored::Kept) => Published::Stored,
+                    Ok(Stored::Covered) => Published::Covered,
+                    Err(NoMemory) => Published::NoMemory,
+                },
             },
         }
     }

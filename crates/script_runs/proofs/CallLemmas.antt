@@ -6,22 +6,16 @@ use Rattle.std.proofs.lemmas.Bool.{true≢false}
 use Rattle.std.proofs.lemmas.List.Sums.{sum_by-append}
 use Rattle.vfs_model.specs.Paths.{Path}
 use Rattle.vfs_model.specs.World.{World}
-use Rattle.vfs_model.specs.Edit.{Edit, Refusal, refusal, events}
 use Rattle.vfs_model.specs.Faults.{Rose}
-use Rattle.vfs_model.specs.Scanning.{Scan, Look, next_left}
-use Rattle.vfs_model.specs.State.{State, Call, CallEdit, CallRead, Reply, Saw, Refused, Done, Overflow, Answers, Outcome, TreeAnswer, ToEdit, ToLook, Does, AreDue, all_fit, edit_by, edit_answer_or, read_or, read_next, scan_of, step, told_step}
-use Rattle.vfs_model.specs.Stands.{Parts, Stands, HasSound}
+use Rattle.vfs_model.specs.Scanning.{Look}
+use Rattle.vfs_model.specs.State.{State, Call, CallEdit, CallRead, Reply, Saw, Fault, NoMemory, Answers, Outcome, TreeAnswer, ToLook, AreDue, step}
+use Rattle.vfs_model.specs.Stands.{Parts, Stands}
 use Rattle.vfs_model.specs.History.{Operation, is_no_memory, after}
-use Rattle.vfs_model.specs.Steps.{IsOutcome, outcome_unless, IsStepOf, IsToldStepOf}
-use Rattle.world_model.specs.Meaning.{refusal_of}
+use Rattle.vfs_model.specs.Steps.{IsOutcome, outcome_unless, IsStepOf}
 use Rattle.world_model.specs.Told.{TreeTold, with_answers}
 use Rattle.vfs_machine.proofs.ToldLemmas.{none-asked}
 use Rattle.vfs_machine.specs.Whole.{told_of}
-use Rattle.vfs_machine.specs.Steps.{IsRead, AreAsked, read_answers, readed_reply, edited_reply, edit_answers, edit_asked, edit_given}
-use Rattle.vfs_machine.specs.declared.answers.Edited.{Edited}
-use Rattle.vfs_machine.specs.declared.answers.Edited.TheVariants as edited
-use Rattle.vfs_machine.specs.declared.answers.Readed.{Readed}
-use Rattle.vfs_machine.specs.declared.answers.Readed.TheVariants as readed
+use Rattle.vfs_machine.specs.Called.{IsCalled, AreAsked, HasSeen, HasNotSeen, MayHaveLooked, CountsFaults, TellsAfter}
 use Rattle.script_report.specs.Runs.{IsMade, asked, asked_in, is_failed}
 use Rattle.script_report.proofs.EachAtLemmas.{after-append, EachAt-append, asked-append}
 use Rattle.script_runs.specs.Making.{RoseBy, Answered, Makes, IsUncounted, nothing, one_look}
@@ -116,155 +110,98 @@ none-wants at count old new call r a over uncounted wanted stepped answered = re
   };
 }
 
--- the call asks the tree nothing
-abbrev pub is_quiet : Call → Bool
-is_quiet (CallEdit edit) = false
-is_quiet (CallRead c) = false
-is_quiet _ = true
+-- ---- what it asked
 
-quiet-asked : (call : Call) (r : Reply) (a : Answers) → is_quiet call ≡ true → asked_in call r a ≡ []
-quiet-asked (CallEdit edit) r a q = absurd (true≢false (sym q))
-quiet-asked (CallRead c) r a q = absurd (true≢false (sym q))
-quiet-asked _ r a q = refl
+seen-asked : (a : Answers) (l : Option Look) (asked : List TreeAnswer) → a.look ≡ l → HasSeen l asked → asked ≡ ToLook a.look ∷ []
+seen-asked a None asked is h = absurd h
+seen-asked a (Some look) asked is h = h ∙ ap (λ (z : Option Look). ToLook z ∷ []) (sym is)
 
-quiet-due : (s : State) (call : Call) (a : Answers) → is_quiet call ≡ true → AreDue s call a
-quiet-due s (CallEdit edit) a q = absurd (true≢false (sym q))
-quiet-due s (CallRead c) a q = absurd (true≢false (sym q))
-quiet-due s _ a q = tt
+unseen-asked : (a : Answers) (l : Option Look) (asked : List TreeAnswer) → a.look ≡ l → HasNotSeen l asked → asked ≡ ToLook a.look ∷ []
+unseen-asked a None asked is h = h ∙ ap (λ (z : Option Look). ToLook z ∷ []) (sym is)
+unseen-asked a (Some look) asked is h = absurd h
 
-abbrev no_answers : Answers
-no_answers = record { edit = Does []; look = None }
+-- unless memory was wanting, what was asked is what the reply tells
+asked-is : (call : Call) (r : Reply) (a : Answers) (asked : List TreeAnswer) → is_no_memory r ≡ false → AreAsked call r a asked → asked ≡ asked_in call r a
+asked-is (CallEdit edit) NoMemory a asked given h = absurd (true≢false given)
+asked-is (CallEdit edit) _ a asked given h = h
+asked-is (CallRead c) (Saw p kind n) a asked given h = seen-asked a a.look asked refl h
+asked-is (CallRead c) Fault a asked given h = unseen-asked a a.look asked refl h
+asked-is (CallRead c) NoMemory a asked given h = absurd (true≢false given)
+asked-is (CallRead c) _ a asked given h = h
+asked-is _ r a asked given h = h
 
-pub quiet-calls : {V : Type 0} (at : V → Path → ℕ) (count : V → ℕ) (old new : Parts V) (call : Call) (r : Reply) → is_quiet call ≡ true → told_of new ≡ told_of old → ((a : Answers) → IsStepOf at count old new a call r) → Calls at count old new call r
-quiet-calls at count old new call r quiet told stepped = record {
-  answers = no_answers;
-  made = λ given caller. one-makes at count old new call r no_answers caller given (stepped no_answers) (λ tells s st. quiet-due s call no_answers quiet) (subst (Answered (told_of old) (told_of new)) (sym (quiet-asked call r no_answers quiet)) (Answered-none (told_of old) (told_of new) told));
-  wanted = λ wanted. none-wants at count old new call r no_answers [] nothing wanted (stepped no_answers) (Answered-none (told_of old) (told_of new) told);
-}
+seen-whole : (l : Option Look) (asked : List TreeAnswer) → HasSeen l asked → count_by is_failed asked ≡ 0
+seen-whole None asked h = absurd h
+seen-whole (Some look) asked h = ap (count_by is_failed) h
 
--- ---- edits
+unseen-failed : (l : Option Look) (asked : List TreeAnswer) → HasNotSeen l asked → count_by is_failed asked ≡ 1
+unseen-failed None asked h = ap (count_by is_failed) h
+unseen-failed (Some look) asked h = absurd h
 
--- an edit asks the tree once, unless memory was wanting
-asked-once : (edit : Edit) (result : Edited) → is_no_memory (edited_reply result) ≡ false → edit_asked edit result ≡ ToEdit (edit_given edit result) ∷ []
-asked-once edit edited.Done memory = refl
-asked-once edit edited.Overflow memory = refl
-asked-once edit (edited.Refused e) memory = refl
-asked-once edit edited.NoMemory memory = absurd (true≢false memory)
+looked-whole : (l : Option Look) (asked : List TreeAnswer) → MayHaveLooked l asked → count_by is_failed asked ≡ 0
+looked-whole None asked h = ap (count_by is_failed) h
+looked-whole (Some look) asked h = elim h [ inl none ↦ ap (count_by is_failed) none | inr one ↦ ap (count_by is_failed) one ]
 
-asked-never : (edit : Edit) (result : Edited) → is_no_memory (edited_reply result) ≡ true → edit_asked edit result ≡ []
-asked-never edit edited.Done memory = absurd (true≢false (sym memory))
-asked-never edit edited.Overflow memory = absurd (true≢false (sym memory))
-asked-never edit (edited.Refused e) memory = absurd (true≢false (sym memory))
-asked-never edit edited.NoMemory memory = refl
+-- the count of failed looks rose by those that failed
+rose-by : (n before now : ℕ) → n ≡ 0 → before ≤ now → RoseBy n before now
+rose-by n before now none later = omega (arith, none, later)
 
--- an edit that is done is not told as refused
-not-refused : (fits : Bool) (r : Refusal) → Refused r ≡ (if fits then Done else Overflow) → ⊥
-not-refused true r e = cc
-not-refused false r e = cc
+rose-by-one : (n before now : ℕ) → n ≡ 1 → Rose before now → RoseBy n before now
+rose-by-one n before now one rose = omega (arith, one, rose)
 
--- where the reply is that of the answer that is due, the tree gave this answer
-given-due : (s : State) (edit : Edit) (result : Edited) (o : Option Refusal) → is_no_memory (edited_reply result) ≡ false → edited_reply result ≡ (edit_by s edit (edit_answer_or edit o)).reply → edit_given edit result ≡ edit_answer_or edit o
-given-due s edit edited.Done None memory e = refl
-given-due s edit edited.Done (Some r) memory e = cc
-given-due s edit edited.Overflow None memory e = refl
-given-due s edit edited.Overflow (Some r) memory e = cc
-given-due s edit (edited.Refused e) None memory is = absurd (not-refused (all_fit (events edit) s.pending) (refusal_of e) is)
-given-due s edit (edited.Refused e) (Some r) memory is = cc
-given-due s edit edited.NoMemory o memory e = absurd (true≢false memory)
+asked-failed : (call : Call) (r : Reply) (a : Answers) (asked : List TreeAnswer) (before now : ℕ) → AreAsked call r a asked → CountsFaults call r before now → RoseBy (count_by is_failed asked) before now
+asked-failed (CallEdit edit) NoMemory a asked before now h counts = rose-by _ before now (ap (count_by is_failed) h) counts
+asked-failed (CallEdit edit) _ a asked before now h counts = rose-by _ before now (ap (count_by is_failed) h) counts
+asked-failed (CallRead c) (Saw p kind n) a asked before now h counts = rose-by _ before now (seen-whole a.look asked h) counts
+asked-failed (CallRead c) Fault a asked before now h counts = rose-by-one _ before now (unseen-failed a.look asked h) counts
+asked-failed (CallRead c) NoMemory a asked before now h counts = rose-by _ before now (looked-whole a.look asked h) counts
+asked-failed (CallRead c) _ a asked before now h counts = rose-by _ before now (ap (count_by is_failed) h) counts
+asked-failed _ r a asked before now h counts = rose-by _ before now (ap (count_by is_failed) h) counts
+
+-- the content is told as before
+still-tells : (call : Call) (old new : TreeTold) → TellsAfter call old new → is_some new.content ≡ is_some old.content
+still-tells (CallEdit edit) old new h = h
+still-tells (CallRead c) old new h = ap is_some h
+still-tells _ old new h = ap (λ (t : TreeTold). is_some t.content) h
+
+-- where memory was wanting, at most one look was asked for, and it did not fail
+looked-uncounted : (l : Option Look) (asked : List TreeAnswer) → MayHaveLooked l asked → IsUncounted asked
+looked-uncounted None asked h = subst IsUncounted (sym h) nothing
+looked-uncounted (Some look) asked h = elim h [ inl none ↦ subst IsUncounted (sym none) nothing | inr one ↦ subst IsUncounted (sym one) (one_look look) ]
+
+asked-uncounted : (call : Call) (a : Answers) (asked : List TreeAnswer) → AreAsked call NoMemory a asked → IsUncounted asked
+asked-uncounted (CallEdit edit) a asked h = subst IsUncounted (sym h) nothing
+asked-uncounted (CallRead c) a asked h = looked-uncounted a.look asked h
+asked-uncounted _ a asked h = subst IsUncounted (sym h) nothing
+
+-- the one reply that says so
+memory-is : (r : Reply) → is_no_memory r ≡ true → r ≡ NoMemory
+memory-is NoMemory h = refl
+memory-is _ h = absurd (true≢false (sym h))
 
 pub some-of : (o : Option World) → is_some o ≡ true → (w : World) × (o ≡ Some w)
 some-of None e = absurd (true≢false (sym e))
 some-of (Some w) e = (w, refl)
 
-pub edit-calls : {V : Type 0} (at : V → Path → ℕ) (count : V → ℕ) (old new : Parts V) (edit : Edit) (result : Edited) → IsStepOf at count old new (edit_answers edit result) (CallEdit edit) (edited_reply result)
-    → IsToldStepOf at count old new (CallEdit edit) (edited_reply result) → is_some new.content ≡ is_some old.content → old.faults ≤ new.faults → new.answers ≡ option_map (with_answers (edit_asked edit result)) old.answers → Calls at count old new (CallEdit edit) (edited_reply result)
-edit-calls at count old new edit result stepped due tells later told = record {
-  answers = edit_answers edit result;
-  made = λ given caller.
-      one-makes at count old new (CallEdit edit) (edited_reply result) (edit_answers edit result) caller given stepped
-      (λ tells s st.
-      let w = some-of old.content tells in
-      let is = outcome-of (edited_reply result) s (told_step s (CallEdit edit)) (Stands at count new) given (due w.0 w.1 s st) in
-      given-due s edit result (refusal s.case s.world edit) given is.0)
-      (record {
-        told = subst (λ (l : List TreeAnswer). new.answers ≡ option_map (with_answers l) old.answers) (asked-once edit result given) told;
-        failed = omega (arith, later);
-        tells = tells;
-      });
-  wanted = λ wanted.
-      none-wants at count old new (CallEdit edit) (edited_reply result) (edit_answers edit result) [] nothing wanted stepped
-      (record {
-        told = subst (λ (l : List TreeAnswer). new.answers ≡ option_map (with_answers l) old.answers) (asked-never edit result wanted) told;
-        failed = omega (arith, later);
-        tells = tells;
-      });
+-- ---- the call
+
+called-answered : {V : Type 0} (at : V → Path → ℕ) (count : V → ℕ) (old new : Parts V) (call : Call) (r : Reply) → (h : IsCalled at count old new call r) → Answered (told_of old) (told_of new) h.asked
+called-answered at count old new call r h = record {
+  told = h.answered;
+  failed = asked-failed call r h.answers h.asked old.faults new.faults h.are_asked h.faults;
+  tells = still-tells call (told_of old) (told_of new) h.tells;
 }
 
--- ---- reads
-
--- a read that saw something had a look that did not fail
-next-saw : (s : State) (c : ℕ) (scan : Scan) (y : Option Path) (l : Option Look) (p : Path) (kind : _) (n : ℕ) → Saw p kind n ≡ (read_next s c scan y l).reply → is_failed (ToLook l) ≡ false
-next-saw s c scan None l p kind n e = cc
-next-saw s c scan (Some y) None p kind n e = cc
-next-saw s c scan (Some y) (Some l) p kind n e = refl
-
-open-saw : (s : State) (c : ℕ) (o : Option Scan) (l : Option Look) (p : Path) (kind : _) (n : ℕ) → Saw p kind n ≡ (read_or s c o l).reply → is_failed (ToLook l) ≡ false
-open-saw s c None l p kind n e = cc
-open-saw s c (Some scan) l p kind n e = next-saw s c scan (next_left scan.partial) l p kind n e
-
-one-failed : (l : Option Look) → count_by is_failed (ToLook l ∷ []) ≤ 1
-one-failed None = omega arith
-one-failed (Some l) = omega arith
-
-none-failed : (l : Option Look) → is_failed (ToLook l) ≡ false → count_by is_failed (ToLook l ∷ []) ≡ 0
-none-failed None e = absurd (true≢false e)
-none-failed (Some l) e = refl
-
--- what the tree answered in a read, unless memory was wanting
-read-answered : {V : Type 0} (at : V → Path → ℕ) (count : V → ℕ) (old new : Parts V) (c : ℕ) (result : Readed) → HasSound at count old → (h : IsRead at count old new c result) → is_no_memory (readed_reply result) ≡ false → (result ≡ readed.Fault → Rose old.faults new.faults) → old.faults ≤ new.faults → new.content ≡ old.content
-    → Answered (told_of old) (told_of new) (asked_in (CallRead c) (readed_reply result) (read_answers h.given))
-read-answered at count old new c readed.NoScan has h given fault later stays = record { told = subst (λ (l : List TreeAnswer). new.answers ≡ option_map (with_answers l) old.answers) h.are_asked h.answered; failed = omega (arith, later); tells = ap is_some stays }
-read-answered at count old new c readed.Done has h given fault later stays = record { told = subst (λ (l : List TreeAnswer). new.answers ≡ option_map (with_answers l) old.answers) h.are_asked h.answered; failed = omega (arith, later); tells = ap is_some stays }
-read-answered at count old new c (readed.Saw p kind n) has h given fault later stays =
-    let s = has.state in
-    let out = outcome-of (Saw p kind n) s (step (read_answers h.given) s (CallRead c)) (Stands at count new) given (h.step s has.stands) in
-    let none = none-failed h.given (open-saw s c (scan_of s c) h.given p kind n out.0) in
-    record { told = subst (λ (l : List TreeAnswer). new.answers ≡ option_map (with_answers l) old.answers) h.are_asked h.answered; failed = omega (arith, none, later); tells = ap is_some stays }
-read-answered at count old new c readed.Fault has h given fault later stays =
-    let few = one-failed h.given in
-    let rose = fault refl in
-    record { told = subst (λ (l : List TreeAnswer). new.answers ≡ option_map (with_answers l) old.answers) h.are_asked h.answered; failed = omega (arith, few, rose); tells = ap is_some stays }
-read-answered at count old new c readed.NoMemory has h given fault later stays = absurd (true≢false given)
-
--- a read that wanted memory asked nothing, or looked and had what it saw
-read-wants : {V : Type 0} (at : V → Path → ℕ) (count : V → ℕ) (old new : Parts V) (c : ℕ) (r : Reply) (given : Option Look) (asked : List TreeAnswer) → AreAsked readed.NoMemory given asked → is_no_memory r ≡ true → IsStepOf at count old new (read_answers given) (CallRead c) r
-    → new.answers ≡ option_map (with_answers asked) old.answers → old.faults ≤ new.faults → new.content ≡ old.content → Wants at count old new
-read-wants at count old new c r None asked none wanted stepped told later stays =
-    none-wants at count old new (CallRead c) r (read_answers None) [] nothing wanted stepped
-    (record { told = subst (λ (l : List TreeAnswer). new.answers ≡ option_map (with_answers l) old.answers) none told; failed = omega (arith, later); tells = ap is_some stays })
-read-wants at count old new c r (Some look) asked some wanted stepped told later stays =
-    elim some [
-      | inl none ↦
-          none-wants at count old new (CallRead c) r (read_answers (Some look)) [] nothing wanted stepped
-          (record { told = subst (λ (l : List TreeAnswer). new.answers ≡ option_map (with_answers l) old.answers) none told; failed = omega (arith, later); tells = ap is_some stays })
-      | inr one ↦
-          none-wants at count old new (CallRead c) r (read_answers (Some look)) (ToLook (Some look) ∷ []) (one_look look) wanted stepped
-          (record { told = subst (λ (l : List TreeAnswer). new.answers ≡ option_map (with_answers l) old.answers) one told; failed = omega (arith, later); tells = ap is_some stays })
-    ]
-
-read-wanted : {V : Type 0} (at : V → Path → ℕ) (count : V → ℕ) (old new : Parts V) (c : ℕ) (result : Readed) → (h : IsRead at count old new c result) → is_no_memory (readed_reply result) ≡ true → old.faults ≤ new.faults → new.content ≡ old.content → Wants at count old new
-read-wanted at count old new c readed.NoMemory h wanted later stays = read-wants at count old new c (readed_reply readed.NoMemory) h.given h.asked h.are_asked wanted h.step h.answered later stays
-read-wanted at count old new c readed.NoScan h wanted later stays = absurd (true≢false (sym wanted))
-read-wanted at count old new c readed.Done h wanted later stays = absurd (true≢false (sym wanted))
-read-wanted at count old new c (readed.Saw p kind n) h wanted later stays = absurd (true≢false (sym wanted))
-read-wanted at count old new c readed.Fault h wanted later stays = absurd (true≢false (sym wanted))
-
-pub read-calls : {V : Type 0} (at : V → Path → ℕ) (count : V → ℕ) (old new : Parts V) (c : ℕ) (result : Readed) → HasSound at count old → IsRead at count old new c result → (result ≡ readed.Fault → Rose old.faults new.faults) → old.faults ≤ new.faults → new.content ≡ old.content → Calls at count old new (CallRead c) (readed_reply result)
-read-calls at count old new c result has h fault later stays = record {
-  answers = read_answers h.given;
+-- what a machine owes of a call is what comes of it here
+pub calls-of : {V : Type 0} (at : V → Path → ℕ) (count : V → ℕ) (old new : Parts V) (call : Call) (r : Reply) → IsCalled at count old new call r → Calls at count old new call r
+calls-of at count old new call r h = record {
+  answers = h.answers;
   made = λ given caller.
-      one-makes at count old new (CallRead c) (readed_reply result) (read_answers h.given) caller given h.step
+      one-makes at count old new call r h.answers caller given h.stepped
       (λ tells s st. let w = some-of old.content tells in h.due w.0 w.1 s st)
-      (read-answered at count old new c result has h given fault later stays);
-  wanted = λ wanted. read-wanted at count old new c result h wanted later stays;
+      (subst (Answered (told_of old) (told_of new)) (asked-is call r h.answers h.asked given h.are_asked) (called-answered at count old new call r h));
+  wanted = λ wanted.
+      none-wants at count old new call r h.answers h.asked
+      (asked-uncounted call h.answers h.asked (subst (λ (z : Reply). AreAsked call z h.answers h.asked) (memory-is r wanted) h.are_asked))
+      wanted h.stepped (called-answered at count old new call r h);
 }

@@ -1,7 +1,7 @@
 -- What a run asks for.
 use Rattle.std.specs.Prelude.{◌<◌, ◌≤◌, ◌+◌, ◌*◌, ◌^◌, ℕ, length}
-use Rattle.vfs_model.specs.Pending.{deliveries_due}
 use Rattle.vfs_model.specs.Stands.{Parts}
+use Rattle.vfs_machine.specs.Called.{spent}
 use Rattle.script_text.specs.declared.script.Command.{Command}
 use Rattle.script_text.specs.declared.script.Command.TheVariants.{Print, Build}
 use Rattle.script_text.specs.declared.script.Line.{Line}
@@ -23,10 +23,6 @@ IsQueue n = (1 ≤ n) × (n ≤ 65536)
 -- so many workers may hash
 abbrev pub IsWorkers : ℕ → Type 0
 IsWorkers n = (1 ≤ n) × (n ≤ 16)
-
--- the invalidations that were made and those that are due
-abbrev pub spent : {V : Type 0} → (V → ℕ) → Parts V → ℕ
-spent count m = count m.versions + deliveries_due m.pending
 
 -- there is room for so many lines, each of which makes at most two invalidations due
 abbrev pub HasRoom : {V : Type 0} → (V → ℕ) → Parts V → ℕ → Type 0

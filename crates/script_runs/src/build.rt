@@ -1,4 +1,4 @@
-//! The lines that show fingerprints: `print` asks for one, and `build` first retains what it is of.
+//! The line `build`, which retains what is to be retained, and shows a fingerprint of it.
 
 ghost use Rattle.std.specs.Prelude.{◌≡◌, ◌<◌, ◌≤◌, ◌+◌, ◌^◌, ℕ, List, length, map, IfOk, OnOk, OnErr, IfSome, is_some, ◌++◌, []};
 ghost use Rattle.std.specs.Fmt.{decimal};
@@ -8,12 +8,13 @@ ghost use Rattle.vfs_model.specs.Fingerprint as fingerprints;
 ghost use Rattle.scan_walk.specs.Scans.{running_at};
 ghost use Rattle.script_report.specs.Stages.{Stage, Whole, Asks, Reads};
 ghost use Rattle.script_report.specs.Lines as report;
-ghost use Rattle.script_runs.specs.Printing.{SpendsNone, spent};
+ghost use Rattle.vfs_machine.specs.Called.{spent};
+ghost use Rattle.script_runs.specs.Printing.{SpendsNone};
 ghost use Rattle.script_runs.specs.Making.{Leads, Stops};
 ghost use Rattle.script_runs.specs.Taking.{counts_of, root_end, inputs_end};
 
 use crate::replay::{read_all, scan_digests, settle};
-use crate::report::{numbered, printed_text, put_number, word};
+use crate::report::{numbered, put_number, word};
 use crate::workers::{Front, Workers};
 use case_order::NoMemory;
 use fingerprint_norms::Input;
@@ -65,22 +66,6 @@ impl Counts {
             reads,
         })
     }
-}
-
-pub(crate) fn print_line<T: Tree, R: Retain, V: Versions>(
-    alloc: Global,
-    machine: &mut Machine<T, R, V>,
-    inputs: &[Input],
-) -> Result<Vec<u8>, NoMemory>
-    requires some { 1 ≤ length inputs.now }
-    requires few { length inputs.now ≤ 64 }
-    ensures done { IfOk result (λ text. (caller : ℕ) → Leads V.version V.count machine.old machine.new caller
-        (report.one_call (state.CallFingerprint (map input_of inputs.now))) (Whole text.items)) }
-    ensures broken { OnErr result ((caller : ℕ) → Stops V.version V.count machine.old machine.new caller
-        (report.one_call (state.CallFingerprint (map input_of inputs.now)))) }
-    ensures room { SpendsNone V.count machine.old machine.new }
-{
-    printed_text(alloc, machine.fingerprint(inputs))
 }
 
 /// Reads the scan that was just begun to its end, publishes it, and tells how many locations were

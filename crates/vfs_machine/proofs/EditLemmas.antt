@@ -6,7 +6,7 @@ use Rattle.vfs_model.specs.Paths.{Path, IsShort}
 use Rattle.vfs_model.specs.World.{World, IsClosed, IsWorld, IsSameBelow, at as at_place}
 use Rattle.vfs_model.specs.Edit.{Edit, Refusal, refusal, apply, events}
 use Rattle.vfs_model.specs.Pending.{Pending, put_all}
-use Rattle.vfs_model.specs.State.{State, TreeAnswer, CallEdit, EditAnswer, Reply, Done, Overflow, Does, all_fit, after_edit, edit_by, edit_answer, edit_answer_or}
+use Rattle.vfs_model.specs.State.{State, TreeAnswer, CallEdit, Reply, Done, Overflow, Does, all_fit, after_edit, edit_by, edit_answer, edit_answer_or}
 use Rattle.vfs_model.specs.History.{is_no_memory}
 use Rattle.vfs_model.specs.Sound.{AreShortEvents}
 use Rattle.vfs_model.specs.Stands.{Parts, Stands}
@@ -14,8 +14,9 @@ use Rattle.world_model.specs.Meaning.{refusal_of}
 use Rattle.world_model.specs.Told.{IsApplied}
 use Rattle.vfs_machine.specs.declared.answers.Edited.{Edited}
 use Rattle.vfs_machine.specs.declared.answers.Edited.TheVariants as edited
-use Rattle.vfs_model.specs.Steps.{IsOutcome, IsStepOf, IsToldStepOf, is_before_memory}
-use Rattle.vfs_machine.specs.Steps.{edit_given, edit_answers, edited_reply}
+use Rattle.vfs_model.specs.Steps.{is_before_memory}
+use Rattle.vfs_machine.specs.Called.{AreAsked, HasItsEvents}
+use Rattle.vfs_machine.specs.Steps.{edit_given, edit_answers, edit_asked, edited_reply}
 use Rattle.vfs_laws.proofs.SameLemmas.{none-node, status-node, same-refusal, same-apply, same-trans}
 
 -- ---- one world in two lists
@@ -93,24 +94,30 @@ pub edit-due : {V : Type 0} (at : V → Path → ℕ) (count : V → ℕ) (m : P
     → (w : World) → m.content ≡ Some w → (s : State) → Stands at count m s → edit_given e result ≡ edit_answer s e
 edit-due at count m e result due w told s st = given-is (refusal s.case s.world e) e result (due-for m.case s w e result st.case (st.world w told) (due w told))
 
--- and so the edit is the model's own step
-pub edit-told : {V : Type 0} (at : V → Path → ℕ) (count : V → ℕ) (old new : Parts V) (e : Edit) (result : Edited)
-    → IsStepOf at count old new (edit_answers e result) (CallEdit e) (edited_reply result)
-    → ((w : World) → old.content ≡ Some w → (s : State) → Stands at count old s → edit_given e result ≡ edit_answer s e)
-    → IsToldStepOf at count old new (CallEdit e) (edited_reply result)
-edit-told at count old new e result step due w told s st =
-    subst (λ (a : EditAnswer). IsOutcome (edited_reply result) s (edit_by s e a) (Stands at count new)) (due w told s st) (step s st)
-
 done-wanting : (fit : Bool) → is_before_memory (done_reply fit) ≡ false
 done-wanting true = refl
 done-wanting false = refl
 
--- memory was wanting only where the edit is not refused
-pub edit-last : (s : State) (e : Edit) (result : Edited) → edit_given e result ≡ edit_answer s e → is_no_memory (edited_reply result) ≡ true → is_before_memory (edit_by s e (edit_answer s e)).reply ≡ false
-edit-last s e edited.Done due none = cc
-edit-last s e edited.Overflow due none = cc
-edit-last s e (edited.Refused r) due none = cc
-edit-last s e edited.NoMemory due none = subst (λ (a : EditAnswer). is_before_memory (edit_by s e a).reply ≡ false) due (done-wanting (all_fit (events e) s.pending))
+-- memory was wanting only where the tree did not refuse
+pub edit-wanting : (s : State) (e : Edit) (result : Edited) → is_no_memory (edited_reply result) ≡ true → is_before_memory (edit_by s e (edit_given e result)).reply ≡ false
+edit-wanting s e edited.Done none = cc
+edit-wanting s e edited.Overflow none = cc
+edit-wanting s e (edited.Refused r) none = cc
+edit-wanting s e edited.NoMemory none = done-wanting (all_fit (events e) s.pending)
+
+-- what the tree answered tells of no other events than those of the edit
+pub given-told : (e : Edit) (result : Edited) → HasItsEvents (CallEdit e) (edit_given e result)
+given-told e edited.Done = refl
+given-told e edited.Overflow = refl
+given-told e (edited.Refused r) = tt
+given-told e edited.NoMemory = refl
+
+-- the tree was asked once, unless memory was wanting
+pub edit-is_asked : (e : Edit) (result : Edited) → AreAsked (CallEdit e) (edited_reply result) (edit_answers e result) (edit_asked e result)
+edit-is_asked e edited.Done = refl
+edit-is_asked e edited.Overflow = refl
+edit-is_asked e (edited.Refused r) = refl
+edit-is_asked e edited.NoMemory = refl
 
 -- what the tree answered tells no path but those of the edit
 pub given-short : (e : Edit) (result : Edited) → Each IsShort (events e) → AreShortEvents (edit_given e result)

@@ -6,6 +6,7 @@ pub mod EditLemmas
 pub mod PutLemmas
 pub mod PublishLemmas
 pub mod ToldLemmas
+pub mod CalledLemmas
 pub mod StaleLemmas
 pub mod RootLemmas
 pub mod KeptLemmas

@@ -1,13 +1,7 @@
 -- What is told, where nothing is added to it.
 use Rattle.std.proofs.Common.{◌≡◌, [], is_some, Option, Some, None, List, option_map, refl, sym, ap, append-nil}
 use Rattle.vfs_model.specs.State.{TreeAnswer, Answers, Does}
-use Rattle.vfs_model.specs.History.{ChangeLog, with_changes}
 use Rattle.world_model.specs.Told.{TreeTold, with_answers}
-
--- the changes are as before
-pub none-changed : (log : Option ChangeLog) → log ≡ option_map (with_changes []) log
-none-changed None = refl
-none-changed (Some log) = λ i. Some (record { board = log.board; changes = sym (append-nil log.changes) i })
 
 -- the answers are as before
 pub none-asked : (all : Option (List TreeAnswer)) → all ≡ option_map (with_answers []) all

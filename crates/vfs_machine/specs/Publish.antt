@@ -6,6 +6,8 @@ use Rattle.vfs_model.specs.Scanning.{snapshot_made}
 use Rattle.vfs_model.specs.State.{Reply, Stale, Covered, Stored, NoMemory}
 use Rattle.vfs_model.specs.History.{with_changes}
 use Rattle.vfs_model.specs.Stands.{RunningScan}
+use Rattle.scan_walk.specs.Cased.{CasedScan}
+use Rattle.scan_walk.specs.Scans.{AreContentsOf, IsDone}
 use Rattle.snapshot_hierarchy.specs.Held.{Held}
 use Rattle.publish_core.specs.declared.published.Published.{Published}
 use Rattle.publish_core.specs.declared.published.Published.TheVariants as published
@@ -26,6 +28,11 @@ scans_after scans c (published.Stale n) = slice_set scans c None
 scans_after scans c published.Covered = slice_set scans c None
 scans_after scans c published.Stored = slice_set scans c None
 scans_after scans c published.NoMemory = scans
+
+-- nothing is left of the scan, and the digests are those of its contents, in order
+pub record IsFinished (s : CasedScan) (digests : List (List ℕ)) : Type 0 where
+  pub done : IsDone (Some s.scan)
+  pub read : AreContentsOf (Some s.scan) digests
 
 -- the scan was published with the snapshot of what it read: the answer is the one that is due, what is retained is what comes of it, and the change is told where changes are
 pub record IsPublishedOf (at : Path → ℕ) (old new : Held) (r : RunningScan) (result : Published) : Type 0 where

@@ -1,5 +1,5 @@
 -- The replies that answers stand for, and what the tree answered in a call.
-use Rattle.std.specs.Prelude.{◌≡◌, ◌⊎◌, ℕ, List, [], ◌∷◌, Option, Some, None, option_map}
+use Rattle.std.specs.Prelude.{◌≡◌, ℕ, List, [], ◌∷◌, Option, Some, None, option_map}
 use Rattle.vfs_model.specs.Paths.{Path}
 use Rattle.vfs_model.specs.World.{World}
 use Rattle.vfs_model.specs.Edit.{Edit, events}
@@ -7,11 +7,12 @@ use Rattle.vfs_model.specs.Scanning.{Look}
 use Rattle.vfs_model.specs.Sound.{AreShapedAnswers}
 use Rattle.vfs_model.specs.Stands.{Parts, Stands}
 use Rattle.vfs_model.specs.Steps.{IsStepOf}
-use Rattle.vfs_model.specs.State.{State, CallRead, Reply, Answers, AreDue, EditAnswer, Refuses, Does, TreeAnswer, ToEdit, ToLook, Refused, Done, Overflow, Fits, Cleared, Delivered, NothingPending, AlreadyOpen, Version, NoScan, AllRead, Saw, Unfinished, Stale, Covered, Stored, Fault, Is, Unknown, NoMemory}
+use Rattle.vfs_model.specs.State.{State, CallRead, Reply, Answers, AreDue, EditAnswer, Refuses, Does, TreeAnswer, ToEdit, Refused, Done, Overflow, Fits, Cleared, Delivered, NothingPending, AlreadyOpen, Version, NoScan, AllRead, Saw, Unfinished, Stale, Covered, Stored, Fault, Is, Unknown, NoMemory}
 use Rattle.world_model.specs.Meaning.{refusal_of}
 use Rattle.world_model.specs.Told.{with_answers}
 use Rattle.world_model.specs.declared.intake.Fit.{Fit}
 use Rattle.world_model.specs.declared.intake.Fit.TheVariants as fit
+use Rattle.vfs_machine.specs.Called.{AreAsked}
 use Rattle.vfs_machine.specs.declared.answers.Edited.{Edited}
 use Rattle.vfs_machine.specs.declared.answers.Edited.TheVariants as edited
 use Rattle.vfs_machine.specs.declared.answers.Delivered.{Delivered as DeliveredAnswer}
@@ -92,15 +93,6 @@ edit_asked edit edited.Overflow = ToEdit (Does (events edit)) ∷ []
 edit_asked edit (edited.Refused e) = ToEdit (Refuses (refusal_of e)) ∷ []
 edit_asked edit edited.NoMemory = []
 
--- what a read asks of the tree, whose look gave this: nothing where the scan is closed or nothing is left, and else one look; where memory was wanting, that may have been before the look or behind one that did not fail
-abbrev pub AreAsked : Readed → Option Look → List TreeAnswer → Type 0
-AreAsked readed.NoScan given asked = asked ≡ []
-AreAsked readed.Done given asked = asked ≡ []
-AreAsked (readed.Saw p k n) given asked = asked ≡ ToLook given ∷ []
-AreAsked readed.Fault given asked = asked ≡ ToLook given ∷ []
-AreAsked readed.NoMemory None asked = asked ≡ []
-AreAsked readed.NoMemory (Some look) asked = (asked ≡ []) ⊎ (asked ≡ ToLook (Some look) ∷ [])
-
 -- the read is the step for some look that the tree gave: it lists names as a look does, is true of the content where that is told, and is all that the tree was asked
 pub record IsRead {V : Type 0} (at : V → Path → ℕ) (count : V → ℕ) (old new : Parts V) (c : ℕ) (result : Readed) : Type 0 where
   pub given : Option Look
@@ -108,5 +100,5 @@ pub record IsRead {V : Type 0} (at : V → Path → ℕ) (count : V → ℕ) (ol
   pub step : IsStepOf at count old new (read_answers given) (CallRead c) (readed_reply result)
   pub looks : (s : State) → Stands at count old s → AreShapedAnswers s (CallRead c) (read_answers given)
   pub due : (w : World) → old.content ≡ Some w → (s : State) → Stands at count old s → AreDue s (CallRead c) (read_answers given)
-  pub are_asked : AreAsked result given asked
+  pub are_asked : AreAsked (CallRead c) (readed_reply result) (read_answers given) asked
   pub answered : new.answers ≡ option_map (with_answers asked) old.answers

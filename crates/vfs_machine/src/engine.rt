@@ -1,6 +1,6 @@
 //! The engine: the parts of a machine, each of whose calls is the model's step.
 
-ghost use Rattle.std.specs.Prelude.{◌≡◌, ◌<◌, ◌≤◌, ◌^◌, ◌+◌, Some, None, [], ◌∷◌, true, false, IfOk, IfErr, IfSome, IsTrue, OnErr, ◌↔◌, ℕ, length, is_some, map, option_map, replicate};
+ghost use Rattle.std.specs.Prelude.{◌≡◌, ◌<◌, ◌≤◌, ◌^◌, ◌+◌, Some, None, [], true, false, IfOk, IfErr, IfSome, IsTrue, OnErr, ◌↔◌, length, is_some, map, option_map, replicate};
 ghost use Rattle.std.specs.Option.{option_copied};
 ghost use Rattle.vfs_model.specs.Paths as paths;
 ghost use Rattle.vfs_model.specs.Pending as pending;
@@ -19,23 +19,22 @@ ghost use Rattle.world_model.specs.declared.edit.EditError.TheVariants as edit_e
 ghost use Rattle.vfs_machine.specs.declared.answers.Edited.TheVariants as edited;
 ghost use Rattle.vfs_machine.specs.declared.answers.Printed.TheVariants as printed;
 ghost use Rattle.vfs_machine.specs.declared.answers.Readed.TheVariants as readed;
-ghost use Rattle.scan_walk.specs.Cased.{CasedScan, IsUnder, cased_at, running_of};
+ghost use Rattle.scan_walk.specs.Cased.{IsUnder, cased_at, running_of};
 ghost use Rattle.scan_walk.specs.Scans.{running_at, AreDigests, AreContentsOf, IsDone, IsShapedRunning};
 ghost use Rattle.vfs_machine.specs.Deliveries.{Counts, IsDue, IsWaiting};
 ghost use Rattle.vfs_machine.specs.Whole.{held_of, opening_parts, told_of};
 ghost use Rattle.vfs_machine.specs.Steps.{IsRead, edit_answers, edit_asked, edited_reply, fit_reply, delivered_reply, began_reply, readed_reply, answer_reply, printed_reply};
 ghost use Rattle.fingerprint_norms.specs.Meaning.{input_of};
-ghost use Rattle.publish_core.specs.Publication.{IsRefusal};
-ghost use Rattle.vfs_model.specs.Retained as spec;
-ghost use Rattle.vfs_machine.specs.Publish.{IsPublished, IsPublishedOf, published_reply, scans_after};
+ghost use Rattle.vfs_machine.specs.Publish.{IsPublished, published_reply, scans_after};
 
 use crate::answers::{Answer, Began, Delivered, Edited, Printed, Readed};
+use crate::finished::FinishedScan;
 use crate::roots::{first_unknown, seen_roots};
 use case_order::{Case, NoMemory, Share};
 use fingerprint_norms::Input;
 use kept_fingerprints::KeptFingerprints;
 use merkle_hash::{Bytes, Digest};
-use publish_core::{Published, Refusal, Vfs};
+use publish_core::{Published, Vfs};
 use scan_walk::{Next, Scan, contents_of, is_open, left_of, next_of, see_in, set_scan};
 use snapshot_hierarchy::Retain;
 use snapshot_tree::{Glance, Kind, Snapshot};
@@ -376,51 +375,6 @@ impl<T: Tree, R: Retain, V: Versions> Engine<T, R, V> {
     }
 }
 
-/// Publishes what the scan read, whose publication nothing refuses.
-fn publish_made<R: Retain, V: Versions>(
-    vfs: &mut Vfs<R, V>,
-    scan: &Scan,
-    digests: &[Digest],
-) -> Published
-    requires case { scan.now.case ≡ vfs.old.case }
-    requires done { scanning.next_left scan.now.scan.partial ≡ None }
-    requires digests { AreContentsOf (Some scan.now.scan) digests.now }
-    requires due { IsRefusal (V.version vfs.old.versions (paths.place vfs.old.case scan.now.scan.path)) scan.now.scan.seen
-        (spec.is_covered vfs.old.retained.pairs (paths.place vfs.old.case scan.now.scan.path)) None }
-    ensures case { vfs.new.case ≡ vfs.old.case }
-    ensures versions { vfs.new.versions ≡ vfs.old.versions }
-    ensures published { IsPublishedOf (V.version vfs.old.versions) vfs.old.held vfs.new.held scan.now.scan result }
-{
-    let Ok(ticket) = scan.ticket().share() else {
-        return Published::NoMemory;
-    };
-    match scan.snapshot(digests) {
-        Err(NoMemory) => Published::NoMemory,
-        Ok(snapshot) => vfs.publish(ticket, snapshot),
-    }
-}
-
-/// Publishes what the scan read, unless a related path was invalidated since its begin, or a
-/// snapshot is retained strictly above.
-fn publish_open<R: Retain, V: Versions>(
-    vfs: &mut Vfs<R, V>,
-    scan: &Scan,
-    digests: &[Digest],
-) -> Published
-    requires case { scan.now.case ≡ vfs.old.case }
-    requires done { scanning.next_left scan.now.scan.partial ≡ None }
-    requires digests { AreContentsOf (Some scan.now.scan) digests.now }
-    ensures case { vfs.new.case ≡ vfs.old.case }
-    ensures versions { vfs.new.versions ≡ vfs.old.versions }
-    ensures published { IsPublishedOf (V.version vfs.old.versions) vfs.old.held vfs.new.held scan.now.scan result }
-{
-    match vfs.refusal(scan.ticket()) {
-        Some(Refusal::Stale(version)) => Published::Stale(version),
-        Some(Refusal::Covered) => Published::Covered,
-        None => publish_made(vfs, scan, digests),
-    }
-}
-
 /// Publishes the scan with the number, which is in progress with nothing left.
 fn publish_scan<R: Retain, V: Versions>(
     vfs: &mut Vfs<R, V>,
@@ -440,7 +394,7 @@ fn publish_scan<R: Retain, V: Versions>(
 {
     match &scans[scan] {
         None => unreachable!(),
-        Some(scan) => publish_open(vfs, scan, digests),
+        Some(scan) => vfs.publish_made(scan.ticket(), FinishedScan::new(scan, digests)),
     }
 }
 

@@ -1,6 +1,6 @@
 //! The machine.
 
-ghost use Rattle.std.specs.Prelude.{◌≡◌, ◌<◌, ◌≤◌, ◌^◌, ◌+◌, Some, [], true, false, List, ℕ, IfOk, IfErr, IfSome, IsTrue, OnErr, ◌↔◌, length, is_some, map, option_map};
+ghost use Rattle.std.specs.Prelude.{◌≡◌, ◌<◌, ◌≤◌, ◌^◌, Some, [], true, false, List, ℕ, IfOk, IfErr, IfSome, IsTrue, OnErr, ◌↔◌, length, is_some, map, option_map};
 ghost use Rattle.std.specs.Option.{option_copied};
 ghost use Rattle.vfs_model.specs.Paths as paths;
 ghost use Rattle.vfs_model.specs.Pending as pending;
@@ -9,14 +9,12 @@ ghost use Rattle.vfs_model.specs.State as state;
 ghost use Rattle.vfs_model.specs.History as history;
 ghost use Rattle.vfs_model.specs.Sound.{IsSettled, IsSound, AreScanned, fingerprint_of};
 ghost use Rattle.vfs_model.specs.World.{World, IsWorld};
-ghost use Rattle.vfs_model.specs.Faults.{Rose};
 ghost use Rattle.vfs_model.specs.Snapshot.{IsTree};
 ghost use Rattle.vfs_model.specs.Stands.{Stands, StandsFor, HasSound, KnowsTruth};
-ghost use Rattle.vfs_model.specs.Steps.{IsStepOf, IsToldStepOf, IsLogged, IsMemoryLast, is_kept};
+ghost use Rattle.vfs_model.specs.Steps.{IsMemoryLast, is_kept};
 ghost use Rattle.snapshot_tree.specs.Meaning.{meaning_of, glance_of};
 ghost use Rattle.snapshot_hierarchy.specs.Held.{nothing};
 ghost use Rattle.world_model.specs.Meaning.{edit_of};
-ghost use Rattle.world_model.specs.Told.{with_answers};
 ghost use Rattle.world_model.specs.declared.edit.EditError.TheVariants as edit_error;
 ghost use Rattle.vfs_machine.specs.declared.answers.Edited.TheVariants as edited;
 ghost use Rattle.vfs_machine.specs.declared.answers.Printed.TheVariants as printed;
@@ -24,11 +22,14 @@ ghost use Rattle.vfs_machine.specs.declared.answers.Readed.TheVariants as readed
 ghost use Rattle.scan_walk.specs.Scans.{running_at, AreDigests, IsShapedRunning};
 ghost use Rattle.vfs_machine.specs.Deliveries.{Counts};
 ghost use Rattle.vfs_machine.specs.Whole.{held_of, opening_parts, told_of};
-ghost use Rattle.vfs_machine.specs.Steps.{IsRead, edit_answers, edit_asked, edited_reply, fit_reply, delivered_reply, began_reply, readed_reply, answer_reply, printed_reply};
+ghost use Rattle.vfs_machine.specs.Called.{IsCalled};
+ghost use Rattle.vfs_machine.specs.Calls.{call_of, reply_of, is_to, HasDigests, HasCount, side_call_of, side_reply_of, is_to_side, HasFewInputs};
+ghost use Rattle.vfs_machine.specs.Steps.{edited_reply, fit_reply, delivered_reply, began_reply, readed_reply, answer_reply, printed_reply};
 ghost use Rattle.fingerprint_norms.specs.Meaning.{input_of};
 ghost use Rattle.vfs_machine.specs.Publish.{IsStaleWhere};
 
 use crate::answers::{Answer, Began, Delivered, Edited, Printed, Readed};
+use crate::calls::{Call, Reply, SideCall, SideReply};
 use crate::engine::Engine;
 use crate::roots::ask_roots;
 use case_order::{Case, NoMemory};
@@ -45,12 +46,13 @@ use world_model::{Edit, Fit, Tree};
 /// A tree, the events that wait, what is retained with the versions of paths, and sixteen numbered
 /// scans, each closed or in progress. It is sound at all times.
 ///
-/// Contracts see these parts as plain data, and say of each call: for every state of the model that
-/// the machine stands for before it, the machine stands afterwards for the state of the model's
-/// step, and the answer is that of the step. Where an answer is `NoMemory` the machine stands for
-/// the states that it stood for before, and no answer that needs no memory was due; of an edit that
-/// is said where the tree tells its content. The type keeps that the machine stands for a state in
-/// shape, and for a sound one where its tree tells the content.
+/// Contracts see these parts as plain data, and say of each call with one record, `IsCalled`: for
+/// every state of the model that the machine stands for before it, the machine stands afterwards for
+/// the state of the model's step, and the answer is that of the step. Where an answer is `NoMemory`
+/// the machine stands for the states that it stood for before, and no answer that needs no memory was
+/// due. The record tells too what the tree was asked, which change was added to the log, and what the
+/// call leaves as it was. The type keeps that the machine stands for a state in shape, and for a sound
+/// one where its tree tells the content.
 #[derive(Drop)]
 pub struct Machine<T: Tree, R: Retain, V: Versions> {
     engine: Engine<T, R, V>,
@@ -109,21 +111,10 @@ impl<T: Tree, R: Retain, V: Versions> Machine<T, R, V> {
     /// `NoMemory`, where the tree tells its content, only where nothing is refused. A tree that is
     /// read only refuses every edit with `ReadOnly`, and no other tree does.
     pub fn edit(&mut self, edit: &Edit) -> Edited
-        ensures step { IsStepOf V.version V.count self.old self.new
-            (edit_answers (edit_of edit.now) result) (state.CallEdit (edit_of edit.now)) (edited_reply result) }
-        ensures told { IsToldStepOf V.version V.count self.old self.new
+        ensures called { IsCalled V.version V.count self.old self.new
             (state.CallEdit (edit_of edit.now)) (edited_reply result) }
-        ensures last { (w : World) → self.old.content ≡ Some w
-            → IsMemoryLast V.version V.count self.old (λ s. state.told_step s (state.CallEdit (edit_of edit.now))) (edited_reply result) }
         ensures read_only { T.takes_no_edits ≡ true → result ≡ edited.Refused edit_error.ReadOnly }
         ensures editable { result ≡ edited.Refused edit_error.ReadOnly → T.takes_no_edits ≡ true }
-        ensures tells { is_some self.new.content ≡ is_some self.old.content }
-        ensures faults { self.old.faults ≤ self.new.faults }
-        ensures answered { self.new.answers
-            ≡ option_map (with_answers (edit_asked (edit_of edit.now) result)) self.old.answers }
-        ensures log { self.new.log ≡ self.old.log }
-        ensures versions { self.new.versions ≡ self.old.versions }
-        ensures waiting { pending.deliveries_due self.new.pending ≤ pending.deliveries_due self.old.pending + 2 }
     {
         ask_lengths(edit);
         self.engine.edit(edit)
@@ -131,12 +122,7 @@ impl<T: Tree, R: Retain, V: Versions> Machine<T, R, V> {
 
     /// Queues an event that was told from outside; takes no memory.
     pub fn event(&mut self, path: Path) -> Fit
-        ensures step { (a : state.Answers)
-            → IsStepOf V.version V.count self.old self.new a (state.CallEvent path) (fit_reply result) }
-        ensures content { told_of self.new ≡ told_of self.old }
-        ensures log { self.new.log ≡ self.old.log }
-        ensures versions { self.new.versions ≡ self.old.versions }
-        ensures waiting { pending.deliveries_due self.new.pending ≤ pending.deliveries_due self.old.pending + 1 }
+        ensures { IsCalled V.version V.count self.old self.new (state.CallEvent path) (fit_reply result) }
     {
         let _short = path.len();
         self.engine.event(path)
@@ -144,11 +130,7 @@ impl<T: Tree, R: Retain, V: Versions> Machine<T, R, V> {
 
     /// Events were lost: those that wait go, and the mark is set; takes no memory.
     pub fn lose(&mut self)
-        ensures step { (a : state.Answers)
-            → IsStepOf V.version V.count self.old self.new a state.CallLose state.Lost }
-        ensures content { told_of self.new ≡ told_of self.old }
-        ensures log { self.new.log ≡ self.old.log }
-        ensures versions { self.new.versions ≡ self.old.versions }
+        ensures { IsCalled V.version V.count self.old self.new state.CallLose state.Lost }
     {
         self.engine.lose();
     }
@@ -176,14 +158,10 @@ impl<T: Tree, R: Retain, V: Versions + Drop> Machine<T, R, V> {
     /// with the invalidation.
     pub fn deliver(&mut self) -> Delivered
         requires { V.count self.old.versions < 2 ^ 62 }
-        ensures step { (a : state.Answers)
-            → IsStepOf V.version V.count self.old self.new a state.CallDeliver (delivered_reply result) }
-        ensures last { (a : state.Answers)
-            → IsMemoryLast V.version V.count self.old (λ s. state.step a s state.CallDeliver) (delivered_reply result) }
-        ensures log { IsLogged V.version V.count self.old self.new state.CallDeliver (delivered_reply result) }
+        ensures called { IsCalled V.version V.count self.old self.new
+            state.CallDeliver (delivered_reply result) }
         ensures counts { Counts result (V.count self.old.versions) (V.count self.new.versions)
             (pending.deliveries_due self.old.pending) (pending.deliveries_due self.new.pending) }
-        ensures content { told_of self.new ≡ told_of self.old }
     {
         self.engine.deliver()
     }
@@ -196,14 +174,8 @@ impl<T: Tree, R: Retain, V: Versions> Machine<T, R, V> {
     /// `AlreadyOpen` comes exactly where the scan is in progress.
     pub fn begin(&mut self, scan: u64, path: &Path) -> Began
         requires { scan < 16 }
-        ensures step { (a : state.Answers)
-            → IsStepOf V.version V.count self.old self.new a (state.CallBegin scan path.now) (began_reply result) }
-        ensures last { (a : state.Answers)
-            → IsMemoryLast V.version V.count self.old (λ s. state.step a s (state.CallBegin scan path.now)) (began_reply result) }
-        ensures content { told_of self.new ≡ told_of self.old }
-        ensures log { self.new.log ≡ self.old.log }
-        ensures versions { self.new.versions ≡ self.old.versions }
-        ensures pending { self.new.pending ≡ self.old.pending }
+        ensures { IsCalled V.version V.count self.old self.new
+            (state.CallBegin scan path.now) (began_reply result) }
     {
         let _short = path.len();
         self.engine.begin(scan, path)
@@ -217,18 +189,9 @@ impl<T: Tree, R: Retain, V: Versions> Machine<T, R, V> {
     /// and after `NoMemory` the scan is as before.
     pub fn read(&mut self, scan: u64) -> Readed
         requires { scan < 16 }
-        ensures read { IsRead V.version V.count self.old self.new scan result }
-        ensures told { (result ≡ readed.Fault → ⊥)
-            → IsToldStepOf V.version V.count self.old self.new (state.CallRead scan) (readed_reply result) }
-        ensures last { (a : state.Answers)
-            → IsMemoryLast V.version V.count self.old (λ s. state.step a s (state.CallRead scan)) (readed_reply result) }
-        ensures fault { result ≡ readed.Fault → Rose self.old.faults self.new.faults }
+        ensures called { IsCalled V.version V.count self.old self.new
+            (state.CallRead scan) (readed_reply result) }
         ensures unfailing { T.never_fails ≡ true → result ≡ readed.Fault → ⊥ }
-        ensures faults { self.old.faults ≤ self.new.faults }
-        ensures content { self.new.content ≡ self.old.content }
-        ensures log { self.new.log ≡ self.old.log }
-        ensures versions { self.new.versions ≡ self.old.versions }
-        ensures pending { self.new.pending ≡ self.old.pending }
     {
         self.engine.read(scan)
     }
@@ -256,19 +219,13 @@ impl<T: Tree, R: Retain, V: Versions> Machine<T, R, V> {
     pub fn publish(&mut self, scan: u64, digests: &[Digest]) -> Answer
         requires number { scan < 16 }
         requires digests { AreDigests (running_at self.old.scans scan) digests.now }
-        ensures step { (a : state.Answers)
-            → IsStepOf V.version V.count self.old self.new a (state.CallPublish scan) (answer_reply result) }
-        ensures last { (a : state.Answers)
-            → IsMemoryLast V.version V.count self.old (λ s. state.step a s (state.CallPublish scan)) (answer_reply result) }
+        ensures called { IsCalled V.version V.count self.old self.new
+            (state.CallPublish scan) (answer_reply result) }
         ensures stale { (s : state.State) (p : paths.Path) (h : List history.Operation) → scan < length s.scans
             → history.AreAnswered (state.after_begin s scan p) h → history.KeepsOpen scan h
             → Stands V.version V.count self.old (history.after (state.after_begin s scan p) h)
             → IsStaleWhere (history.is_invalidated_in s.case p h) (pending.version s.past (paths.place s.case p))
             (pending.version (history.after (state.after_begin s scan p) h).past (paths.place s.case p)) result }
-        ensures log { IsLogged V.version V.count self.old self.new (state.CallPublish scan) (answer_reply result) }
-        ensures content { told_of self.new ≡ told_of self.old }
-        ensures versions { self.new.versions ≡ self.old.versions }
-        ensures pending { self.new.pending ≡ self.old.pending }
     {
         self.engine.publish(scan, digests)
     }
@@ -276,12 +233,8 @@ impl<T: Tree, R: Retain, V: Versions> Machine<T, R, V> {
     /// Closes the scan with the number; false exactly where it was closed. Takes no memory.
     pub fn drop_scan(&mut self, scan: u64) -> bool
         requires { scan < 16 }
-        ensures step { (a : state.Answers)
-            → IsStepOf V.version V.count self.old self.new a (state.CallDrop scan) (state.Dropped result) }
-        ensures content { told_of self.new ≡ told_of self.old }
-        ensures log { self.new.log ≡ self.old.log }
-        ensures versions { self.new.versions ≡ self.old.versions }
-        ensures pending { self.new.pending ≡ self.old.pending }
+        ensures { IsCalled V.version V.count self.old self.new
+            (state.CallDrop scan) (state.Dropped result) }
     {
         self.engine.drop_scan(scan)
     }
@@ -298,8 +251,8 @@ impl<T: Tree, R: Retain, V: Versions> Machine<T, R, V> {
 
     /// The kind and the digest of what is retained at the path; takes no memory.
     pub fn find(&self, path: &Path) -> Option<Glance>
-        ensures { (a : state.Answers) (s : state.State) → Stands V.version V.count self.now s
-            → state.Found (option_map glance_of result) ≡ (state.step a s (state.CallFind path.now)).reply }
+        ensures { IsCalled V.version V.count self.now self.now
+            (state.CallFind path.now) (state.Found (option_map glance_of result)) }
     {
         self.engine.find(path)
     }
@@ -320,8 +273,8 @@ impl<T: Tree, R: Retain, V: Versions> Machine<T, R, V> {
 
     /// The kind of the location, where it is known; takes no memory.
     pub fn kind(&self, path: &Path) -> Option<Kind>
-        ensures { (a : state.Answers) (s : state.State) → Stands V.version V.count self.now s
-            → state.KindIs result ≡ (state.step a s (state.CallKind path.now)).reply }
+        ensures { IsCalled V.version V.count self.now self.now
+            (state.CallKind path.now) (state.KindIs result) }
     {
         self.engine.kind(path)
     }
@@ -329,8 +282,8 @@ impl<T: Tree, R: Retain, V: Versions> Machine<T, R, V> {
     /// The version of the path: the place of the last invalidation that was related to it, counted
     /// from 1, or 0. Takes no memory.
     pub fn version(&self, path: &Path) -> u64
-        ensures { (a : state.Answers) (s : state.State) → Stands V.version V.count self.now s
-            → state.Version result ≡ (state.step a s (state.CallVersion path.now)).reply }
+        ensures { IsCalled V.version V.count self.now self.now
+            (state.CallVersion path.now) (state.Version result) }
     {
         self.engine.version(path)
     }
@@ -347,25 +300,67 @@ impl<T: Tree, R: Retain, V: Versions> Machine<T, R, V> {
     pub fn fingerprint(&mut self, inputs: &[Input]) -> Printed
         requires some { 1 ≤ length inputs.now }
         requires few { length inputs.now ≤ 64 }
-        ensures step { (a : state.Answers)
-            → IsStepOf V.version V.count self.old self.new a (state.CallFingerprint (map input_of inputs.now)) (printed_reply result) }
-        ensures last { (a : state.Answers)
-            → IsMemoryLast V.version V.count self.old (λ s. state.step a s (state.CallFingerprint (map input_of inputs.now))) (printed_reply result) }
+        ensures called { IsCalled V.version V.count self.old self.new
+            (state.CallFingerprint (map input_of inputs.now)) (printed_reply result) }
         ensures kept { result ≡ printed.NoMemory → (s : state.State) → Stands V.version V.count self.old s
             → is_kept s (map input_of inputs.now) ≡ false }
         ensures world { (w : World) (digest : List ℕ) → self.old.content ≡ Some w
             → self.old.pending.events ≡ [] → self.old.pending.mark ≡ false
             → printed_reply result ≡ state.Is digest
             → digest ≡ fingerprint_of self.old.case w (map input_of inputs.now) }
-        ensures content { told_of self.new ≡ told_of self.old }
-        ensures log { self.new.log ≡ self.old.log }
-        ensures versions { self.new.versions ≡ self.old.versions }
-        ensures pending { self.new.pending ≡ self.old.pending }
     {
         // The tree's word that what it tells is a world.
         let _case = self.engine.case();
         ask_roots(inputs);
         self.engine.fingerprint(inputs)
+    }
+}
+
+impl<T: Tree, R: Retain, V: Versions + Drop> Machine<T, R, V> {
+    /// Makes the call, which is its caller's: a call of a scan is made on the scan with this number,
+    /// 0 to 15. A publication takes the digests of what the scan read, in order; another call has no
+    /// use for them.
+    ///
+    /// The reply is what the call of that name answers.
+    pub fn call(&mut self, scan: u64, call: Call, digests: &[Digest]) -> Reply
+        requires number { scan < 16 }
+        requires room { HasCount (V.count self.old.versions) call }
+        requires digests { HasDigests self.old.scans scan call digests.now }
+        ensures called { IsCalled V.version V.count self.old self.new
+            (call_of scan call) (reply_of result) }
+        ensures kind { is_to call result ≡ true }
+    {
+        match call {
+            Call::Edit(edit) => Reply::Edited(self.edit(&edit)),
+            Call::Event(path) => Reply::Fit(self.event(path)),
+            Call::Lose => {
+                self.lose();
+                Reply::Lost
+            }
+            Call::Deliver => Reply::Delivered(self.deliver()),
+            Call::Begin(path) => Reply::Began(self.begin(scan, &path)),
+            Call::Read => Reply::Readed(self.read(scan)),
+            Call::Publish => Reply::Answer(self.publish(scan, digests)),
+        }
+    }
+
+    /// Makes the call, which is its caller's: `Abandon` closes the scan with this number, 0 to 15.
+    ///
+    /// The reply is what the call of that name answers.
+    pub fn side_call(&mut self, scan: u64, call: SideCall<'_>) -> SideReply
+        requires number { scan < 16 }
+        requires inputs { HasFewInputs call }
+        ensures called { IsCalled V.version V.count self.old self.new
+            (side_call_of scan call.entry) (side_reply_of result) }
+        ensures kind { is_to_side call.entry result ≡ true }
+    {
+        match call {
+            SideCall::Find(path) => SideReply::Found(self.find(path)),
+            SideCall::Kind(path) => SideReply::Known(self.kind(path)),
+            SideCall::Version(path) => SideReply::Version(self.version(path)),
+            SideCall::Print(inputs) => SideReply::Printed(self.fingerprint(inputs)),
+            SideCall::Abandon => SideReply::Dropped(self.drop_scan(scan)),
+        }
     }
 }
 

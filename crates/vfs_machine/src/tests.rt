@@ -4,8 +4,8 @@ ghost use Rattle.std.specs.Prelude.{◌≡◌, ◌<◌, ◌≤◌, ◌+◌, ◌^
 ghost use Rattle.vfs_model.specs.World.{digest_of_bytes};
 ghost use Rattle.scan_walk.specs.Scans.{running_at, AreDigests};
 
-use crate::{Answer, Began, Delivered, Edited, Machine, Readed};
-use case_order::{Case, NoMemory};
+use crate::{Answer, Began, Call, Delivered, Edited, Machine, Readed, Reply, SideCall, SideReply};
+use case_order::{Case, NoMemory, Share};
 use mem_tree::MemTree;
 use merkle_hash::{Bytes, Digest, file_digest};
 use snapshot_hierarchy::{FlatRetain, Retain};
@@ -348,6 +348,31 @@ fn directory_is_retained(rt: HostRuntime) -> Result<(), Fail> {
     ];
     assert_kinds(&rt, alloc, &machine, &wants)?;
     assert_left(&rt, machine, &path(alloc, "/D/A")?, file);
+    Ok(())
+}
+
+#[test]
+fn calls_are_values(rt: HostRuntime) -> Result<(), Fail> {
+    let alloc = rt.alloc();
+    let at = path(alloc, "/f")?;
+    let mut machine = machine(alloc, 2)?;
+    let edit = Call::Edit(write(alloc, "/f", "abc")?);
+    let again = edit.share()?;
+    for call in [edit, again] {
+        let reply = machine.call(15, call, &[]);
+        assert!(rt; matches!(reply, Reply::Edited(Edited::Done)));
+    }
+    let began = machine.call(15, Call::Begin(at.share()?), &[]);
+    assert!(rt; matches!(began, Reply::Began(Began::Version(0))));
+    let read = machine.call(15, Call::Read, &[]);
+    assert!(rt; matches!(read, Reply::Readed(Readed::Saw(_, Kind::File, 0))));
+    let digests = scan_digests(alloc, &machine, 15)?;
+    let published = machine.call(15, Call::Publish, digests.as_slice());
+    assert!(rt; matches!(published, Reply::Answer(Answer::Stored)));
+    let known = machine.side_call(15, SideCall::Kind(&at));
+    assert_eq!(rt; known, SideReply::Known(Some(Kind::File)));
+    let dropped = machine.side_call(15, SideCall::Abandon);
+    assert_eq!(rt; dropped, SideReply::Dropped(false));
     Ok(())
 }
 

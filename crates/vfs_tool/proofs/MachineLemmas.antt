@@ -24,7 +24,8 @@ use Rattle.script_report.specs.Runs.{IsMade, AreMade, asked, operations_of}
 use Rattle.script_runs.specs.declared.output.Break.{Break}
 use Rattle.script_runs.specs.Making.{Answered, Makes}
 use Rattle.script_runs.specs.Opening.{MayHold}
-use Rattle.script_runs.specs.Printing.{HasRoom, spent}
+use Rattle.vfs_machine.specs.Called.{spent}
+use Rattle.script_runs.specs.Printing.{HasRoom}
 use Rattle.script_runs.specs.Running.{RunsLines, BreaksLines}
 use Rattle.vfs_tool.specs.Scripts.{RunsCommands, BreaksCommand}
 

@@ -2,7 +2,7 @@ use Rattle.std.proofs.Common.{◌≡◌, ◌≤◌, ◌+◌, List, map, drop}
 use Rattle.vfs_model.specs.Fingerprint.{Input}
 use Rattle.fingerprint_norms.specs.Meaning.{input_of}
 use Rattle.script_report.specs.Lines.{no_counts, taking}
-use Rattle.script_runs.specs.Printing.{spent}
+use Rattle.vfs_machine.specs.Called.{spent}
 use Rattle.script_runs.specs.Making.{Leads}
 use Rattle.script_runs.specs.Taking.{counts_of}
 use Rattle.script_runs.proofs.build.take_inputs.Given as goal

@@ -1,5 +1,7 @@
 use Rattle.std.proofs.Common.{◌≡◌, true, refl, arith}
+use Rattle.vfs_model.specs.State.{CallDeliver, NothingPending}
 use Rattle.vfs_machine.specs.Steps.{delivered_reply}
+use Rattle.script_runs.proofs.CallLemmas.{calls-of}
 use Rattle.script_runs.proofs.LeadLemmas.{is_delivery, more-delivered, more-spent, all-delivered, stopped-delivery}
 use Rattle.script_runs.proofs.replay.settle.Goals.{in-Event, in-Cleared}
 use Rattle.script_runs.proofs.replay.settle.Goals as goal
@@ -11,10 +13,10 @@ pub overflow_add-count-in-Cleared : goal.overflow_add-count-in-Cleared
 overflow_add-count-in-Cleared g c = let i = c.loop-count.invariant.counted in let r = c.requires in omega (arith, i, r)
 
 pub returns-in-Nothing-clause-done : goal.returns-in-Nothing-clause-done
-returns-in-Nothing-clause-done g c = all-delivered g.V.Versions.version g.V.Versions.count c.args.machine.now c.loop-count.machine c.deliver.new.self c.loop-count.count c.deliver.ensures.content c.in-Nothing.ensures.step c.loop-count.invariant.done
+returns-in-Nothing-clause-done g c = all-delivered g.V.Versions.version g.V.Versions.count c.args.machine.now c.loop-count.machine c.deliver.new.self c.loop-count.count (calls-of g.V.Versions.version g.V.Versions.count c.loop-count.machine c.deliver.new.self CallDeliver NothingPending c.in-Nothing.ensures.called) c.loop-count.invariant.done
 
 pub returns-in-NoMemory-clause-broken : goal.returns-in-NoMemory-clause-broken
-returns-in-NoMemory-clause-broken g c = stopped-delivery g.V.Versions.version g.V.Versions.count c.args.machine.now c.loop-count.machine c.deliver.new.self c.loop-count.count (delivered_reply c.deliver.result) c.deliver.ensures.content c.deliver.ensures.step c.loop-count.invariant.done
+returns-in-NoMemory-clause-broken g c = stopped-delivery g.V.Versions.version g.V.Versions.count c.args.machine.now c.loop-count.machine c.deliver.new.self c.loop-count.count (delivered_reply c.deliver.result) (calls-of g.V.Versions.version g.V.Versions.count c.loop-count.machine c.deliver.new.self CallDeliver (delivered_reply c.deliver.result) c.deliver.ensures.called) c.loop-count.invariant.done
 
 -- the same goal three times: the path that was delivered is dropped, or has nothing to drop, or there is none
 pub loop-count-preserved-after-deliver : goal.loop-count-preserved-after-deliver
@@ -28,7 +30,7 @@ loop-count-preserved-after-deliver g c =
     let spent = more-spent c.deliver.result _ _ _ _ is c.deliver.ensures.counts in
     let a = before.counted in
     let b = before.room in
-    let done = more-delivered g.V.Versions.version g.V.Versions.count c.args.machine.now c.loop-count.machine c.deliver.new.self c.loop-count.count c.deliver.result is c.deliver.ensures.content c.deliver.ensures.step before.done in
+    let done = more-delivered g.V.Versions.version g.V.Versions.count c.args.machine.now c.loop-count.machine c.deliver.new.self c.loop-count.count c.deliver.result is (calls-of g.V.Versions.version g.V.Versions.count c.loop-count.machine c.deliver.new.self CallDeliver (delivered_reply c.deliver.result) c.deliver.ensures.called) before.done in
     record {
       done =
           elim c.match-deliver.branch [
@@ -54,7 +56,7 @@ loop-count-preserved-after-deliver-2 g c =
     let spent = more-spent c.deliver.result _ _ _ _ is c.deliver.ensures.counts in
     let a = before.counted in
     let b = before.room in
-    let done = more-delivered g.V.Versions.version g.V.Versions.count c.args.machine.now c.loop-count.machine c.deliver.new.self c.loop-count.count c.deliver.result is c.deliver.ensures.content c.deliver.ensures.step before.done in
+    let done = more-delivered g.V.Versions.version g.V.Versions.count c.args.machine.now c.loop-count.machine c.deliver.new.self c.loop-count.count c.deliver.result is (calls-of g.V.Versions.version g.V.Versions.count c.loop-count.machine c.deliver.new.self CallDeliver (delivered_reply c.deliver.result) c.deliver.ensures.called) before.done in
     record {
       done =
           elim c.match-deliver.branch [
@@ -80,7 +82,7 @@ loop-count-preserved g c =
     let spent = more-spent c.deliver.result _ _ _ _ is c.deliver.ensures.counts in
     let a = before.counted in
     let b = before.room in
-    let done = more-delivered g.V.Versions.version g.V.Versions.count c.args.machine.now c.loop-count.machine c.deliver.new.self c.loop-count.count c.deliver.result is c.deliver.ensures.content c.deliver.ensures.step before.done in
+    let done = more-delivered g.V.Versions.version g.V.Versions.count c.args.machine.now c.loop-count.machine c.deliver.new.self c.loop-count.count c.deliver.result is (calls-of g.V.Versions.version g.V.Versions.count c.loop-count.machine c.deliver.new.self CallDeliver (delivered_reply c.deliver.result) c.deliver.ensures.called) before.done in
     record {
       done =
           elim c.match-deliver.branch [
