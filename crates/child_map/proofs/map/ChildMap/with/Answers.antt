@@ -1,0 +1,10 @@
+use Rattle.std.proofs.Common.{ap, ◌∙◌}
+use Rattle.child_map.specs.Keys.{entries_of}
+use Rattle.child_map.proofs.MapLemmas.{with-order, with-seen}
+use Rattle.child_map.proofs.map.ChildMap.with.Goals as goal
+
+pub with_list-requires : goal.with_list-requires
+with_list-requires g c = with-order c.self.inside.case (entries_of c.self.inside.list) (entries_of c.in_ok-list.list) c.args.self.now c.in_ok-key.key c.args.key.items c.args.value c.args.i c.self.view_is c.in_ok-key.ensures c.self.invariant c.requires.apart c.in_ok-list.ensures
+
+pub returns-clause-children : goal.returns-clause-children
+returns-clause-children g c = ap (λ kids. kids.children) c.with_list.ensures ∙ with-seen c.self.inside.case (entries_of c.self.inside.list) (entries_of c.in_ok-list.list) c.args.self.now c.in_ok-key.key c.args.key.items c.args.value c.args.i c.self.view_is c.in_ok-key.ensures c.in_ok-list.ensures
