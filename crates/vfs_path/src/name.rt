@@ -1,9 +1,10 @@
 //! Names.
 
-ghost use Rattle.std.specs.Prelude.{◌≡◌, ◌↔◌, ◌⊎◌, IfOk, IfErr, Ok, Err, Some, None, true};
+ghost use Rattle.std.specs.Prelude.{◌≡◌, ◌↔◌, ◌⊎◌, ◌≤◌, length, IfOk, IfErr, Ok, Err, Some, None, true};
 ghost use Rattle.std.specs.List.{list_all};
 ghost use Rattle.std.specs.Str.{is_utf8};
 ghost use Rattle.vfs_path.specs.declared.error.PathError.TheVariants.{NoMemory as NoMemoryError};
+ghost use Rattle.vfs_path.specs.NameTexts.{bytes_of, IsShort};
 ghost use Rattle.vfs_path.specs.Texts.{IsName, stands_in_name, is_dots, first_refusal, spelling_refusals, name_of};
 
 use crate::error::PathError;
@@ -14,21 +15,31 @@ use std::str;
 
 /// A name: 1 to 255 bytes of UTF-8 without byte 0, LF and `/`, other than `.` and `..`.
 ///
-/// Contracts see its bytes.
+/// Up to 22 bytes stand in the value itself, so most names take no memory of their own, and a
+/// copy of one counts nothing. Contracts see its bytes.
 #[derive(Debug, Drop)]
 pub struct Name {
-    text: Shared<Vec<u8>>,
+    text: NameText,
+}
+
+/// Where the bytes of a name stand.
+#[derive(Debug, Drop)]
+enum NameText {
+    /// In place: the first bytes of the array, as many as the number says.
+    Short([u8; 22], u8),
+    /// In memory that all copies share.
+    Long(Shared<Vec<u8>>),
 }
 
 impl Model for Name {
     ghost use Rattle.std.specs.Prelude.{List, ℕ};
-    ghost use Rattle.vfs_path.specs.Texts.{IsName};
+    ghost use Rattle.vfs_path.specs.NameTexts.{bytes_of, IsNameText};
 
     ghost Value = { List ℕ };
 
-    ghost view = { λ n. n.text.items };
+    ghost view = { λ n. bytes_of n.text };
 
-    ghost invariant = { λ n. IsName n.text.items };
+    ghost invariant = { λ n. IsNameText n.text };
 }
 
 impl Name {
@@ -56,9 +67,14 @@ impl Name {
         requires { IsName text.now }
         ensures { IfOk result (λ name. name ≡ text.now) }
     {
+        if text.len() <= 22 {
+            return Ok(Name { text: short(text) });
+        }
         let bytes = Vec::from_slice(alloc, text)?;
         match Shared::new(alloc, bytes) {
-            Ok(text) => Ok(Name { text }),
+            Ok(text) => Ok(Name {
+                text: NameText::Long(text),
+            }),
             Err((_, refused)) => Err(refused),
         }
     }
@@ -68,14 +84,33 @@ impl Name {
         ensures bytes { result.now ≡ self.now }
         ensures name { IsName self.now }
     {
-        self.text.get().as_slice()
+        match &self.text {
+            NameText::Short(bytes, len) => &bytes[..*len as usize],
+            NameText::Long(text) => text.get().as_slice(),
+        }
     }
+}
+
+/// The text of at most 22 bytes, in place.
+fn short(text: &[u8]) -> NameText
+    requires { length text.now ≤ 22 }
+    ensures { (bytes_of result ≡ text.now) × IsShort result }
+{
+    let mut bytes = [0u8; 22];
+    bytes[..text.len()].copy_from_slice(text);
+    NameText::Short(bytes, text.len() as u8)
 }
 
 impl Share for Name {
     fn share(&self) -> Result<Name, NoMemory> {
-        let text = self.text.share()?;
-        Ok(Name { text })
+        match &self.text {
+            NameText::Short(bytes, len) => Ok(Name {
+                text: NameText::Short(*bytes, *len),
+            }),
+            NameText::Long(text) => Ok(Name {
+                text: NameText::Long(text.share()?),
+            }),
+        }
     }
 }
 

@@ -62,6 +62,26 @@ fn long_texts_are_read_or_refused(rt: HostRuntime) -> Result<(), Fail> {
     Ok(())
 }
 
+/// So many bytes and a `z` behind them are a name, and a copy of it outlives it.
+fn assert_name_behind(rt: &impl Abort, alloc: Global, before: usize) -> Result<(), Fail> {
+    let mut text = repeated(alloc, b"", b"y", before)?;
+    text.push(b'z')?;
+    let name = Name::from_bytes(alloc, text.as_slice())?;
+    assert_eq!(rt; name.as_bytes(), text.as_slice());
+    let copy = name.share()?;
+    drop(name);
+    assert_eq!(rt; copy.as_bytes(), text.as_slice());
+    Ok(())
+}
+
+#[test]
+fn short_and_long_names_keep_their_bytes(rt: HostRuntime) -> Result<(), Fail> {
+    for before in [0, 21, 22, 254] {
+        assert_name_behind(&rt, rt.alloc(), before)?;
+    }
+    Ok(())
+}
+
 fn assert_no_name(rt: &impl Abort, alloc: Global, text: &[u8], want: PathError) {
     match Name::from_bytes(alloc, text) {
         Ok(_) => panic!(rt; "a name"),

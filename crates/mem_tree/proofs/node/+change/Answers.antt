@@ -48,9 +48,9 @@ change_children-returns-in-File-clause-changed t c =
 
 pub change_children-returns-in-Dir-clause-changed : goal.change_children-returns-in-Dir-clause-changed
 change_children-returns-in-Dir-clause-changed t c =
-    IfOk-weaker c.change.result _ _
+    IfOk-weaker c.change-in-Dir.result _ _
     (λ u e.
-    changed-below c.args.case (after_change c.args.case c.args.change) c.args.children.now.items (slice_set c.args.children.now.items c.in-Ok.i (record { name = c.index_mut.result.now.name; node = Dir c.change.new.self })) c.name-item.result (place c.args.case (take (length c.args.names.now - 1) (drop 1 c.args.names.now))) c.in-Ok.i c.index_mut.result.now (record { name = c.index_mut.result.now.name; node = Dir c.change.new.self }) c.in-Dir.listing
+    changed-below c.args.case (after_change c.args.case c.args.change) c.args.children.now.items (slice_set c.args.children.now.items c.in-Ok.i (record { name = c.index_mut.result.now.name; node = Dir c.change-in-Dir.new.self })) c.name-item.result (place c.args.case (take (length c.args.names.now - 1) (drop 1 c.args.names.now))) c.in-Ok.i c.index_mut.result.now (record { name = c.index_mut.result.now.name; node = Dir c.change-in-Dir.new.self }) c.in-Dir.listing
     (subst (λ (cs : List Child). IsHere c.args.case cs c.name-item.result c.in-Ok.i) c.as_slice.ensures.value (c.in-Ok.ensures)) c.index_mut.ensures.value (ap tree_of_node c.in-Dir.is) refl (ap Branch e) refl
     ∙ ap (λ x. changed c.args.case (after_change c.args.case c.args.change) x (children_of c.args.children.now.items)) (place-begins c.args.case c.args.names.now c.name-item.result c.in-len1-up.len_at_least c.name-item.is))
-    c.change.ensures.changed
+    c.change-in-Dir.ensures.changed
