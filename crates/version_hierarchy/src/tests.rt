@@ -1,8 +1,8 @@
-//! Versions after invalidations, and a ticket that is shared.
+//! Versions after invalidations, in both forms, and a ticket that is shared.
 
 ghost use Rattle.std.specs.Prelude.{◌≡◌};
 
-use crate::{FlatVersions, Ticket, Versions};
+use crate::{FlatVersions, Ticket, TreeVersions, Versions};
 use case_order::{Case, Share};
 use std::alloc::Global;
 use std::process::Abort;
@@ -43,6 +43,48 @@ fn versions_are_of_what_is_related(rt: HostRuntime) -> Result<(), Fail> {
     let alloc = rt.alloc();
     let none = FlatVersions::new(alloc, Case::Insensitive);
     assert_raised(&rt, alloc, &none)
+}
+
+#[test]
+fn versions_of_the_tree_are_of_what_is_related(rt: HostRuntime) -> Result<(), Fail> {
+    let alloc = rt.alloc();
+    let none = TreeVersions::new(alloc, Case::Insensitive);
+    assert_raised(&rt, alloc, &none)
+}
+
+/// Asserts that both forms tell the same of some paths.
+fn assert_alike(
+    rt: &impl Abort,
+    alloc: Global,
+    flat: &FlatVersions,
+    tree: &TreeVersions,
+) -> Result<(), Fail> {
+    for text in [
+        "/", "/a", "/A/b", "/a/b/c", "/a/x", "/b", "/c", "/c/d/e/f", "/k", "/l/m", "/n",
+    ] {
+        assert_eq!(rt; at(alloc, tree, text)?, at(alloc, flat, text)?, "{text}");
+    }
+    assert_eq!(rt; tree.count(), flat.count());
+    Ok(())
+}
+
+#[test]
+fn both_forms_tell_the_same_after_each_raise(rt: HostRuntime) -> Result<(), Fail> {
+    let alloc = rt.alloc();
+    let mut flat = FlatVersions::new(alloc, Case::Insensitive);
+    let mut tree = TreeVersions::new(alloc, Case::Insensitive);
+    for text in [
+        "/a/b", "/c/D/e", "/A", "/f", "/e", "/g", "/b/x", "/d", "/i", "/h", "/j", "/L", "/k/y",
+        "/a/B/c", "/", "/c", "/l/m",
+    ] {
+        let path = Path::parse(alloc, text.as_bytes())?;
+        assert!(rt; flat.count() < 100);
+        assert!(rt; tree.count() < 100);
+        flat = flat.raised(&path)?;
+        tree = tree.raised(&path)?;
+        assert_alike(&rt, alloc, &flat, &tree)?;
+    }
+    Ok(())
 }
 
 #[test]

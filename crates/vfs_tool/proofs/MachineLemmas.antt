@@ -3,7 +3,6 @@ use Rattle.std.proofs.Common.{◌≡◌, ℕ, ◌+◌, ◌*◌, ◌<◌, ◌^◌
 use Rattle.std.specs.Prelude.{is_some}
 use Rattle.vfs_model.specs.declared.Case.{Case}
 use Rattle.vfs_model.specs.Paths.{Path}
-use Rattle.vfs_model.specs.Pending.{version}
 use Rattle.vfs_model.specs.World.{World, IsSameBelow}
 use Rattle.vfs_model.specs.State.{State, TreeAnswer}
 use Rattle.vfs_model.specs.Stands.{StandsFor, Parts, Stands}
@@ -13,7 +12,8 @@ use Rattle.vfs_laws.proofs.SameLemmas.{same-refl}
 use Rattle.vfs_laws.proofs.HistoryLemmas.{each_at-weaker}
 use Rattle.vfs_laws.proofs.ChangesLemmas.{after-case}
 use Rattle.world_model.specs.Told.{TreeTold}
-use Rattle.version_hierarchy.specs.Flat.{Invalidated}
+use Rattle.tree_model.specs.Numbers.{at_in}
+use Rattle.version_hierarchy.specs.Tree.{Numbered}
 use Rattle.snapshot_hierarchy.specs.Held.{Held, nothing}
 use Rattle.snapshot_hierarchy.specs.Flat.{holding}
 use Rattle.vfs_machine.specs.Whole.{opening_parts, told_of}
@@ -38,24 +38,24 @@ pub record IsFirst {V : Type 0} (at : V → Path → ℕ) (count : V → ℕ) (t
   pub none : held.retained ≡ nothing
   pub past : StandsFor (at versions) (count versions) []
 
--- the versions and the count of the flat form
+-- the versions and the count of the tree of versions
 
-abbrev pub at_flat : Invalidated → Path → ℕ
-at_flat v x = version v.places x
+abbrev pub at_tree : Numbered → Path → ℕ
+at_tree v x = at_in v.case v.numbers x
 
-abbrev pub count_flat : Invalidated → ℕ
-count_flat v = length v.places
+abbrev pub count_tree : Numbered → ℕ
+count_tree v = v.count
 
--- a machine that is made with empty flat forms under the tree's case
-pub flat-first : (told : TreeTold) (queue : ℕ) (m : Parts Invalidated) (held : Held) (v : Invalidated) (case : Case) → m ≡ opening_parts told queue held v → case ≡ told.case → held ≡ holding case nothing → v ≡ record { case = case; places = [] }
-    → IsFirst at_flat count_flat told queue m
-flat-first told queue m held v case is under none past = record {
+-- a machine that is made with what is retained and the versions under the tree's case, and both of nothing
+pub made-first : (told : TreeTold) (queue : ℕ) (m : Parts Numbered) (held : Held) (v : Numbered) (case : Case) → m ≡ opening_parts told queue held v → case ≡ told.case → held ≡ holding case nothing → v.case ≡ case → StandsFor (at_in case v.numbers) v.count []
+    → IsFirst at_tree count_tree told queue m
+made-first told queue m held v case is under none same past = record {
   held = held;
   versions = v;
   is = is;
   case = sym under ∙ sym (ap (λ (h : Held). h.case) none);
   none = ap (λ (h : Held). h.retained) none;
-  past = subst (λ (u : Invalidated). StandsFor (at_flat u) (count_flat u) []) (sym past) (record { versions = λ x. refl; number = refl });
+  past = subst (λ (c : Case). StandsFor (at_in c v.numbers) v.count []) (sym same) past;
 }
 
 -- it stands for the opening state of each world that the tree may hold

@@ -27,7 +27,7 @@ use script_runs::{Break, put_openings, run_lines};
 use snapshot_hierarchy::FlatRetain;
 use std::alloc::Global;
 use std::thread::Threads;
-use version_hierarchy::FlatVersions;
+use version_hierarchy::TreeVersions;
 use vfs_io::{Sink, Source};
 use vfs_machine::Machine;
 use world_model::{Settings, Tree};
@@ -57,7 +57,7 @@ fn run_commands<H: Threads + Sync, T: Tree, K: Sink>(
         alloc,
         tree,
         FlatRetain::new(alloc, case),
-        FlatVersions::new(alloc, case),
+        TreeVersions::new(alloc, case),
         settings.queue,
     );
     let mut machine = match made {
